@@ -1,15 +1,20 @@
--- How the first record is read.
+-- The laws of reading one record.
 use mathlib.Core.Path.{_≡_, refl, sym, ap, _∙_}
 use mathlib.Core.List.{List, [], _∷_}
-use Prim.Native.Nat.{ℕ, _-_, _≤_, _<_}
+use Prim.Native.Nat.{ℕ, _+_, _-_, _≤_, _<_}
 use native.Mathlib.Omega.{arith}
-use lib.ListN.{length, getD, take, drop}
-use Rattle.std.proofs.shelf.Lists.{take-rest}
+use lib.ListN.{length, getD, take, drop, length-drop}
+use Rattle.std.proofs.shelf.Lists.{take-rest, drop-all, length-take-le}
 use Rattle.std.proofs.shelf.Ways.{tells}
-use Rattle.std.specs.declared.result.Result.the-variants.{Ok}
+use Rattle.std.specs.declared.result.Result.{Result}
+use Rattle.std.specs.declared.result.Result.the-variants.{Ok, Err}
+use Rattle.bytecode.specs.declared.refusals.Reason.{Reason}
+use Rattle.bytecode.specs.declared.refusals.Reason.the-variants.{MissingEnd}
 use Rattle.bytecode.specs.Kinds.{bodyLength}
-use Rattle.bytecode.specs.Reading.{readOne}
-use Rattle.bytecode.specs.Records.{Shown, formed}
+use Rattle.bytecode.specs.Reading.{Read, readOne}
+use Rattle.bytecode.specs.Records.{Shown, formed, bytesOf}
+use Rattle.bytecode.specs.Refusals.{fault}
+use Rattle.bytecode.specs.Walking.{placed}
 
 -- a slice pattern takes the kind, and a cut at the kind's length takes the body
 pub read-first : (bs : List ℕ) (s : Shown) (n : ℕ) (body after : List ℕ) → 0 < length bs → n ≡ bodyLength (getD bs 0 0) → n ≤ 254 → n ≤ length bs - 1
@@ -18,3 +23,27 @@ read-first [] s n body after some e known fits is front back = absurd (omega ari
 read-first (k ∷ rest) s n body after some e known fits is front back =
     let r = take-rest (k ∷ rest) 1 in
     grind (arith, tells)
+
+-- a record that is read is as long as the bytes that are gone
+pub read-length : (bs : List ℕ) (x : Read) → readOne bs ≡ Ok x → length bs ≡ length (bytesOf (x .0)) + length (x .1)
+read-length [] x e = absurd (let z : _≡_ {A = ℕ} 0 1 = cc in omega arith)
+read-length (k ∷ rest) x e =
+    let d = length-drop (bodyLength k) rest in
+    let t = length-take-le (bodyLength k) rest in
+    grind (arith, tells)
+
+-- past the end there is no record
+pub no-more : (bs : List ℕ) (place : ℕ) → length bs ≤ place → Err (fault MissingEnd place) ≡ placed place (readOne (drop place bs))
+no-more bs place h = ap (λ l. placed place (readOne l)) (sym (drop-all place bs h))
+
+-- a slice from `place` on holds what is left there
+pub from-place : (bs : List ℕ) (place : ℕ) (r : Result Read Reason) → r ≡ readOne (take (length bs - place) (drop place bs)) → r ≡ readOne (drop place bs)
+from-place bs place r e = e ∙ ap readOne (take-rest bs place)
+
+-- where the next record begins
+pub next-place : (bs : List ℕ) (place : ℕ) (x : Read) → place ≤ length bs → Ok x ≡ readOne (drop place bs)
+    → (length bs - length (x .1) ≡ place + length (bytesOf (x .0))) × (length (x .1) ≤ length bs)
+next-place bs place x h e =
+    let long = read-length (drop place bs) x (sym e) in
+    let left = length-drop place bs in
+    (omega arith, omega arith)

@@ -5,4 +5,5 @@ pub mod Ranges
 pub mod Reading
 pub mod Records
 pub mod Refusals
+pub mod Walking
 pub mod Writing

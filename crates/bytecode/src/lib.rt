@@ -4,6 +4,7 @@ mod operands;
 mod reading;
 mod records;
 mod refusals;
+mod walk;
 mod writing;
 
 pub use kinds::NO_KIND;
@@ -19,4 +20,6 @@ pub use refusals::Fault;
 pub use refusals::FaultDisplay;
 pub use refusals::Reason;
 pub use refusals::ReasonDisplay;
+pub use walk::Placed;
+pub use walk::Walk;
 pub use writing::write_record;
