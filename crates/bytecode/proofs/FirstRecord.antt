@@ -1,10 +1,10 @@
 -- The laws of reading one record.
 use mathlib.Core.Path.{_≡_, refl, sym, ap, _∙_}
-use mathlib.Core.List.{List, [], _∷_}
+use mathlib.Core.List.{List, [], _∷_, _++_}
 use Prim.Native.Nat.{ℕ, _+_, _-_, _≤_, _<_}
 use native.Mathlib.Omega.{arith}
-use lib.ListN.{length, getD, take, drop, length-drop}
-use Rattle.std.proofs.shelf.Lists.{take-rest, drop-all, length-take-le}
+use lib.ListN.{length, getD, take, drop, length-drop, length-append, take-append-drop}
+use Rattle.std.proofs.shelf.Lists.{take-rest, take-at, drop-at, drop-all, length-take-le}
 use Rattle.std.proofs.shelf.Ways.{tells}
 use Rattle.std.specs.declared.result.Result.{Result}
 use Rattle.std.specs.declared.result.Result.the-variants.{Ok, Err}
@@ -47,3 +47,25 @@ next-place bs place x h e =
     let long = read-length (drop place bs) x (sym e) in
     let left = length-drop place bs in
     (omega arith, omega arith)
+
+-- what is read stands at the front
+pub read-front : (bs : List ℕ) (x : Read) → readOne bs ≡ Ok x → bytesOf (x .0) ++ x .1 ≡ bs
+read-front [] x e = absurd (let z : _≡_ {A = ℕ} 0 1 = cc in omega arith)
+read-front (k ∷ rest) x e =
+    let t = take-append-drop (bodyLength k) rest in
+    grind (arith, tells)
+
+-- what is read has a kind that there is, and a body of its length
+pub read-formed : (bs : List ℕ) (x : Read) → readOne bs ≡ Ok x → formed (x .0) ≡ Ok (x .0)
+read-formed [] x e = absurd (let z : _≡_ {A = ℕ} 0 1 = cc in omega arith)
+read-formed (k ∷ rest) x e =
+    let t = length-take-le (bodyLength k) rest in
+    grind (arith, tells)
+
+-- such a record at the front is read
+pub reads-front : (x : Shown) (rest : List ℕ) → formed x ≡ Ok x → readOne (bytesOf x ++ rest) ≡ Ok (x, rest)
+reads-front x rest f =
+    let t = take-at (x .1) rest (bodyLength (x .0)) in
+    let d = drop-at (x .1) rest (bodyLength (x .0)) in
+    let l = length-append (x .1) rest in
+    grind (arith, tells)

@@ -19,8 +19,8 @@ use Rattle.bytecode.specs.Records.{Shown, bytesOf}
 use Rattle.bytecode.specs.Refusals.{fault}
 use Rattle.bytecode.specs.Walking.{At, placed}
 use Rattle.bytecode.proofs.FirstRecord.{read-length, read-front}
-use Rattle.codec.specs.declared.order.Progress.{Progress}
-use Rattle.codec.specs.Order.{advance, isEnd, start}
+use Rattle.grammar.specs.declared.order.Progress.{Progress}
+use Rattle.grammar.specs.Order.{advance, isEnd, start}
 use Rattle.codec.specs.Reading.{Cut, cutting, cut, noBytes, judging, judged, readModule}
 
 -- what a walk over these bytes met at a place

@@ -12,8 +12,8 @@ use Rattle.bytecode.specs.declared.refusals.Reason.the-variants.{MissingEnd, Un
 use Rattle.bytecode.specs.Reading.{Read, readOne}
 use Rattle.bytecode.specs.Records.{Shown, bytesOf}
 use Rattle.bytecode.specs.Refusals.{fault}
-use Rattle.codec.specs.declared.order.Progress.{Progress}
-use Rattle.codec.specs.Order.{advance, isEnd, start}
+use Rattle.grammar.specs.declared.order.Progress.{Progress}
+use Rattle.grammar.specs.Order.{advance, isEnd, start}
 
 -- the records that bytes begin with, and why there is no further one
 pub record Cut : Type 0 where

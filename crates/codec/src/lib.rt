@@ -1,6 +1,5 @@
 // A whole module: the order of its records, how it is read, and how its records give its bytes back.
 mod modules;
-mod order;
 mod theorems;
 
 pub use modules::MAX_MODULE;

@@ -1,7 +1,7 @@
 // A whole module: read, and written again from its records.
 ghost use mathlib.Core.Path.{_≡_};
 ghost use Rattle.codec.specs.Reading.{readModule};
-use super::order::Progress;
+use grammar::Progress;
 use bytecode::Fault;
 use bytecode::Reason;
 use bytecode::Walk;

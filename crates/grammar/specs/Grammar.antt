@@ -7,9 +7,9 @@ use lib.ListN.{length}
 use Rattle.std.specs.declared.result.Result.the-variants.{Ok}
 use Rattle.bytecode.specs.Ranges.{inRange}
 use Rattle.bytecode.specs.Records.{Shown, formed}
-use Rattle.codec.specs.declared.order.Part.{Part}
-use Rattle.codec.specs.declared.order.Part.the-variants.{Module, Struct, Field, Function, Param, Result, Local, Code, End}
-use Rattle.codec.specs.Order.{partOf}
+use Rattle.grammar.specs.declared.order.Part.{Part}
+use Rattle.grammar.specs.declared.order.Part.the-variants.{Module, Struct, Field, Function, Param, Result, Local, Code, End}
+use Rattle.grammar.specs.Order.{partOf}
 
 -- a record of this part: its kind is one that there is, its body has that kind's length and is in range
 pub record Is (part : Part) (x : Shown) : Type 0 where

@@ -1,7 +1,7 @@
 // Which record may follow which, and how many of each there may be.
 ghost use mathlib.Core.Path.{_≡_};
 ghost use Rattle.bytecode.specs.Records.{shown};
-ghost use Rattle.codec.specs.Order.{partOf, mayFollow, most, had, counting, advance, isEnd};
+ghost use Rattle.grammar.specs.Order.{partOf, mayFollow, most, had, counting, advance, isEnd};
 use bytecode::Reason;
 use bytecode::Record;
 

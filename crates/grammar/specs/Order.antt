@@ -9,9 +9,9 @@ use Rattle.bytecode.specs.declared.refusals.Reason.{Reason}
 use Rattle.bytecode.specs.declared.refusals.Reason.the-variants.{OutOfOrder, TooMany, OutOfRange}
 use Rattle.bytecode.specs.Ranges.{inRange}
 use Rattle.bytecode.specs.Records.{Shown}
-use Rattle.codec.specs.declared.order.Part.{Part}
-use Rattle.codec.specs.declared.order.Part.the-variants.{Start, Module, Struct, Field, Function, Param, Result as Answer, Local, Code, End}
-use Rattle.codec.specs.declared.order.Progress.{Progress}
+use Rattle.grammar.specs.declared.order.Part.{Part}
+use Rattle.grammar.specs.declared.order.Part.the-variants.{Start, Module, Struct, Field, Function, Param, Result as Answer, Local, Code, End}
+use Rattle.grammar.specs.declared.order.Progress.{Progress}
 
 -- the part that a kind of record is: every instruction is code
 abbrev pub partOf : ℕ → Part
