@@ -13,7 +13,7 @@ use Rattle.bytecode.specs.declared.refusals.Reason.the-variants.{MissingEnd}
 use Rattle.bytecode.specs.Kinds.{bodyLength}
 use Rattle.bytecode.specs.Reading.{Read, readOne}
 use Rattle.bytecode.specs.Records.{Shown, formed, bytesOf}
-use Rattle.bytecode.specs.Refusals.{fault}
+use Rattle.bytecode.specs.Refusals.{fault, number}
 use Rattle.bytecode.specs.Walking.{placed}
 
 -- a slice pattern takes the kind, and a cut at the kind's length takes the body
@@ -69,3 +69,8 @@ reads-front x rest f =
     let d = drop-at (x .1) rest (bodyLength (x .0)) in
     let l = length-append (x .1) rest in
     grind (arith, tells)
+
+-- a record that can't be read is refused by 1
+pub unread-number : (bs : List ℕ) (why : Reason) → readOne bs ≡ Err why → number why ≡ 1
+unread-number [] why e = let same : why ≡ MissingEnd = cc in ap number same
+unread-number (k ∷ rest) why e = grind (arith, tells)

@@ -45,7 +45,7 @@ not-read place (Ok y) f e = absurd (let z : _≡_ {A = ℕ} 0 1 = cc in omega ar
 not-read place (Err why) f e = (why, refl, cc)
 
 -- the verdict on the records from a place on
-abbrev from : ℕ → Progress → ℕ → ℕ → List ℕ → Result ℕ Fault
+abbrev pub from : ℕ → Progress → ℕ → ℕ → List ℕ → Result ℕ Fault
 from turns p n place bs = judging p n place (cutting turns bs .records) (cutting turns bs .stop)
 
 -- the records from this place on decide the whole
@@ -127,7 +127,7 @@ ended zero p n place bs h over = rw over
 ended (suc turns) p n place [] h over = rw over
 ended (suc turns) p n place (b ∷ bs) h over = absurd (omega arith)
 
-some-bytes : (bs : List ℕ) (why : Reason) → 0 < length bs → readOne bs ≡ Err why → noBytes why ≡ false
+pub some-bytes : (bs : List ℕ) (why : Reason) → 0 < length bs → readOne bs ≡ Err why → noBytes why ≡ false
 some-bytes [] why h e = absurd (omega arith)
 some-bytes (k ∷ rest) why h e = grind (arith, tells)
 

@@ -1,1 +1,4 @@
+pub mod Examples
+pub mod Readable
 pub mod Reading
+pub mod RoundTrip

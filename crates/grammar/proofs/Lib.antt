@@ -1,3 +1,4 @@
+pub mod Begun
 pub mod Built
 pub mod Parsed
 pub mod Steps

@@ -1,5 +1,5 @@
 -- A row of records taken one by one, and what one step asks and keeps.
-use mathlib.Core.Path.{_≡_, refl, sym, ap, _∙_}
+use mathlib.Core.Path.{_≡_, refl, sym, ap, subst, _∙_}
 use mathlib.Core.Bool.{Bool, true, false, cond}
 use mathlib.Core.List.{List, [], _∷_, _++_}
 use Prim.Native.Nat.{ℕ, zero, suc, _+_, _≤_, _<_}
@@ -13,6 +13,7 @@ use Rattle.bytecode.specs.declared.refusals.Reason.{Reason}
 use Rattle.bytecode.specs.declared.refusals.Reason.the-variants.{OutOfOrder, TooMany, OutOfRange}
 use Rattle.bytecode.specs.Ranges.{inRange}
 use Rattle.bytecode.specs.Records.{Shown, formed}
+use Rattle.bytecode.specs.Refusals.{number}
 use Rattle.grammar.specs.declared.order.Part.{Part}
 use Rattle.grammar.specs.declared.order.Part.the-variants.{Start, Module, Struct, Field, Function, Param, Result as Answer, Local, Code, End}
 use Rattle.grammar.specs.declared.order.Progress.{Progress}
@@ -49,3 +50,31 @@ pub step-to : (p : Progress) (part : Part) (x : Shown) → Is part x → mayFoll
 step-to p part x i follows fits =
     let t = lt-ltb (had p part) (most part) fits in
     rw (i .kind, follows, t, i .ranged)
+
+-- nothing follows the end
+follows-open : (last part : Part) → mayFollow last part ≡ true → isEnd last ≡ false
+follows-open last Start h = absurd (let z : _≡_ {A = ℕ} 0 1 = cc in omega arith)
+follows-open last Module h = grind (arith, tells)
+follows-open last Struct h = grind (arith, tells)
+follows-open last Field h = grind (arith, tells)
+follows-open last Function h = grind (arith, tells)
+follows-open last Param h = grind (arith, tells)
+follows-open last Answer h = grind (arith, tells)
+follows-open last Local h = grind (arith, tells)
+follows-open last Code h = grind (arith, tells)
+follows-open last End h = grind (arith, tells)
+
+pub step-open : (p : Progress) (x : Shown) (q : Progress) → advance p x ≡ Ok q → isEnd (p .last) ≡ false
+step-open p x q e = follows-open (p .last) (partOf (x .0)) (step-from p x q e .follows)
+
+unchosen : (a b c : Bool) (p : Progress) (why : Reason)
+    → _≡_ {A = Result Progress Reason} (cond a (cond b (cond c (Ok p) (Err OutOfRange)) (Err TooMany)) (Err OutOfOrder)) (Err why)
+    → (2 ≤ number why) × (number why ≤ 4)
+unchosen true true true p why e = absurd (let z : _≡_ {A = ℕ} 0 1 = cc in omega arith)
+unchosen true true false p why e = let same-why : OutOfRange ≡ why = cc in subst (λ w. (2 ≤ number w) × (number w ≤ 4)) same-why (omega arith, omega arith)
+unchosen true false c p why e = let same-why : TooMany ≡ why = cc in subst (λ w. (2 ≤ number w) × (number w ≤ 4)) same-why (omega arith, omega arith)
+unchosen false b c p why e = let same-why : OutOfOrder ≡ why = cc in subst (λ w. (2 ≤ number w) × (number w ≤ 4)) same-why (omega arith, omega arith)
+
+-- a step is refused by 2, 3 or 4
+pub step-number : (p : Progress) (x : Shown) (why : Reason) → advance p x ≡ Err why → (2 ≤ number why) × (number why ≤ 4)
+step-number p x why e = unchosen (mayFollow (p .last) (partOf (x .0))) (ltb (had p (partOf (x .0))) (most (partOf (x .0)))) (inRange x) (after p (partOf (x .0))) why e

@@ -66,3 +66,8 @@ pub record ModuleRow (xs : List Shown) : Type 0 where
   pub has-structs : Rows StructRow 8 structs
   pub has-functions : Rows FunctionRow 16 functions
   pub is-end : Is End end
+
+-- a module can begin with this row
+pub record Begins (xs : List Shown) : Type 0 where
+  pub further : List Shown
+  pub whole : ModuleRow (xs ++ further)

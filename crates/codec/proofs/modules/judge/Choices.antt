@@ -2,7 +2,7 @@ use Prim.Native.Nat.{_-_}
 use mathlib.Core.Path.{_≡_}
 use lib.ListN.{length}
 use Rattle.codec.proofs.Turns.{Going}
-use Rattle.codec.proofs.modules.read_module.Given as given
+use Rattle.codec.proofs.modules.judge.Given as given
 
 abbrev pub Inv-loop-progress : given.InvT-loop-progress
 Inv-loop-progress l =
