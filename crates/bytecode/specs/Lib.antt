@@ -1,9 +1,5 @@
 pub mod Kinds
 pub mod Names
-pub mod Operands
 pub mod Ranges
-pub mod Reading
 pub mod Records
 pub mod Refusals
-pub mod Walking
-pub mod Writing

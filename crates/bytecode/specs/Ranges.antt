@@ -2,7 +2,7 @@
 use mathlib.Core.Bool.{Bool, true, false, cond}
 use lib.Dec.{eqb, ltb, leb}
 use lib.ListN.{getD}
-use Rattle.bytecode.specs.Operands.{lowFirst}
+use Rattle.operands.specs.Operands.{lowFirst}
 use Rattle.bytecode.specs.Records.{Shown}
 
 -- a module's number is not 0; abilities are at most 15, a visibility 2, a bool 1; every other body will do

@@ -7,14 +7,14 @@ pub const NO_KIND: u8 = 255;
 
 // By kind byte, from 00 to FF.
 const BODY_LENGTHS: [u8; 256] = [
-    0,
-    2,
-    1,
-    3,
-    1,
-    3,
-    3,
-    3,
+    0, // end
+    2, // module
+    1, // struct
+    3, // field
+    1, // function
+    3, // param
+    3, // result
+    3, // local
     255,
     255,
     255,
@@ -23,34 +23,34 @@ const BODY_LENGTHS: [u8; 256] = [
     255,
     255,
     255,
-    1,
-    8,
-    8,
-    0,
-    0,
-    1,
-    1,
-    1,
-    0,
-    0,
-    0,
+    1, // pushbool
+    8, // pushnum
+    8, // pushaddr
+    0, // sender
+    0, // pop
+    1, // copyloc
+    1, // moveloc
+    1, // stloc
+    0, // add
+    0, // sub
+    0, // mul
     255,
     255,
-    0,
-    0,
+    0, // lt
+    0, // eq
     255,
     255,
     255,
-    1,
-    1,
-    3,
-    0,
-    0,
-    1,
-    1,
-    1,
-    1,
-    1,
+    1, // jump
+    1, // jumpif
+    3, // call
+    0, // ret
+    0, // abort
+    1, // pack
+    1, // unpack
+    1, // moveto
+    1, // movefrom
+    1, // exists
     255,
     255,
     255,

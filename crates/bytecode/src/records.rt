@@ -10,8 +10,8 @@ ghost use Rattle.bytecode.specs.Ranges.{inRange};
 ghost use Rattle.bytecode.specs.Records.{shown, shownOk, formed};
 use super::kinds::NO_KIND;
 use super::kinds::body_length;
-use super::operands::module_number;
 use super::refusals::Reason;
+use operands::module_number;
 
 #[derive(Clone, Copy)]
 pub enum Record<'a> {
@@ -159,11 +159,36 @@ impl<'a> Record<'a> {
         ensures { λ r. ⌜ now r ≡ shown (now (self .entry)) .1 ⌝ }
     {
         match self {
-            Record::Struct(body) | Record::Function(body) | Record::PushBool(body) | Record::CopyLoc(body) | Record::MoveLoc(body) | Record::StLoc(body) | Record::Jump(body) | Record::JumpIf(body) | Record::Pack(body) | Record::Unpack(body) | Record::MoveTo(body) | Record::MoveFrom(body) | Record::Exists(body) => *body,
+            Record::Struct(body)
+            | Record::Function(body)
+            | Record::PushBool(body)
+            | Record::CopyLoc(body)
+            | Record::MoveLoc(body)
+            | Record::StLoc(body)
+            | Record::Jump(body)
+            | Record::JumpIf(body)
+            | Record::Pack(body)
+            | Record::Unpack(body)
+            | Record::MoveTo(body)
+            | Record::MoveFrom(body)
+            | Record::Exists(body) => *body,
             Record::Module(body) => *body,
-            Record::Field(body) | Record::Param(body) | Record::Result(body) | Record::Local(body) | Record::Call(body) => *body,
+            Record::Field(body)
+            | Record::Param(body)
+            | Record::Result(body)
+            | Record::Local(body)
+            | Record::Call(body) => *body,
             Record::PushNum(body) | Record::PushAddr(body) => *body,
-            Record::End | Record::Sender | Record::Pop | Record::Add | Record::Sub | Record::Mul | Record::Lt | Record::Eq | Record::Ret | Record::Abort => &[],
+            Record::End
+            | Record::Sender
+            | Record::Pop
+            | Record::Add
+            | Record::Sub
+            | Record::Mul
+            | Record::Lt
+            | Record::Eq
+            | Record::Ret
+            | Record::Abort => &[],
         }
     }
 

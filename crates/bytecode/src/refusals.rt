@@ -23,7 +23,11 @@ impl Reason {
         ensures { λ r. ⌜ r ≡ number self ⌝ }
     {
         match self {
-            Reason::MissingEnd | Reason::UnknownKind | Reason::CutRecord | Reason::WrongBodyLength | Reason::BytesAfterEnd => 1,
+            Reason::MissingEnd
+            | Reason::UnknownKind
+            | Reason::CutRecord
+            | Reason::WrongBodyLength
+            | Reason::BytesAfterEnd => 1,
             Reason::OutOfOrder => 2,
             Reason::TooMany | Reason::TooLong => 3,
             Reason::OutOfRange => 4,

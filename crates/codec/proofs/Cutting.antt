@@ -5,9 +5,9 @@ use Prim.Native.Nat.{ℕ, zero, suc, _+_, _≤_}
 use native.Mathlib.Omega.{arith}
 use lib.ListN.{length, length-append}
 use Rattle.std.specs.declared.result.Result.the-variants.{Ok}
-use Rattle.bytecode.specs.Reading.{readOne}
+use Rattle.codec.specs.FirstRecord.{readOne}
 use Rattle.bytecode.specs.Records.{Shown, bytesOf, formed}
-use Rattle.bytecode.proofs.FirstRecord.{reads-front}
+use Rattle.codec.proofs.FirstRecord.{reads-front}
 use Rattle.codec.specs.Readable.{written}
 use Rattle.codec.specs.Reading.{Cut, cutting, cut}
 use Rattle.codec.specs.RoundTrip.{only}

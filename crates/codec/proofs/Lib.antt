@@ -1,4 +1,6 @@
+pub mod Appending
 pub mod Cutting
+pub mod FirstRecord
 pub mod Rewriting
 pub mod RoundTrip
 pub mod Turns

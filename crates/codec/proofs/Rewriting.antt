@@ -14,11 +14,11 @@ use Rattle.std.specs.declared.result.Result.the-variants.{Ok, Err}
 use Rattle.bytecode.specs.declared.refusals.Fault.{Fault}
 use Rattle.bytecode.specs.declared.refusals.Reason.{Reason}
 use Rattle.bytecode.specs.Ranges.{inRange}
-use Rattle.bytecode.specs.Reading.{Read, readOne}
+use Rattle.codec.specs.FirstRecord.{Read, readOne}
 use Rattle.bytecode.specs.Records.{Shown, bytesOf, formed}
-use Rattle.bytecode.specs.Walking.{placed}
-use Rattle.bytecode.specs.Writing.{writing, filled}
-use Rattle.bytecode.proofs.FirstRecord.{read-front, reads-front}
+use Rattle.codec.specs.Walking.{placed}
+use Rattle.codec.specs.Writing.{writing, filled}
+use Rattle.codec.proofs.FirstRecord.{read-front, reads-front}
 use Rattle.grammar.specs.declared.order.Progress.{Progress}
 use Rattle.grammar.proofs.Built.{module-taken}
 use Rattle.grammar.proofs.Steps.{Accepts, over, next, step-from}
@@ -48,8 +48,13 @@ pub record Rewriting (bs old now : List ℕ) (place used : ℕ) : Type 0 where
 
 pub begins : {bs : List ℕ} {n : ℕ} (old : List ℕ) (place : ℕ) → IsModule bs n → length bs ≤ length old → place ≡ 0 → Rewriting bs old old place 0
 begins {bs} old place m fits first = subst (λ k. Rewriting bs old old k 0) (sym first) (record {
-  same = refl; inside = omega arith; room = fits;
-  records = m .records; writable = taken-writable (module-taken (m .records) (m .allowed)); bytes = m .bytes; buffer = refl;
+  same = refl;
+  inside = omega arith;
+  room = fits;
+  records = m .records;
+  writable = taken-writable (module-taken (m .records) (m .allowed));
+  bytes = m .bytes;
+  buffer = refl;
 })
 
 buffer-length : {bs old now : List ℕ} {place used : ℕ} → Rewriting bs old now place used → length now ≡ length old
@@ -79,7 +84,7 @@ one-more bs old place x rest inside front =
     let more : take (place + k) bs ≡ take place bs ++ bytesOf x = ap (take (place + k)) (sym whole) ∙ take-at (take place bs ++ bytesOf x) rest (place + k) (omega arith) in
     let before : take place (take place bs ++ drop place old) ≡ take place bs = take-at (take place bs) (drop place old) place lt in
     let behind : drop (place + k) (take place bs ++ drop place old) ≡ drop (place + k) old =
-        sym (drop-drop k place _) ∙ ap (drop k) (drop-at (take place bs) (drop place old) place lt) ∙ drop-drop k place old in
+    sym (drop-drop k place _) ∙ ap (drop k) (drop-at (take place bs) (drop place old) place lt) ∙ drop-drop k place old in
     ap (λ l. l ++ (bytesOf x ++ drop (place + k) (take place bs ++ drop place old))) before
     ∙ ap (λ l. take place bs ++ (bytesOf x ++ l)) behind
     ∙ sym (append-assoc (take place bs) (bytesOf x) (drop (place + k) old))
@@ -147,9 +152,10 @@ at-end {bs} {old} {now} {place} {used} m f g same e =
     let none-left = none-readable (drop place bs) place f (g .records) (g .writable) (g .bytes) (e ∙ ap (λ l. placed place (readOne (drop place l))) same) in
     let i = g .inside in
     let s = g .same in
-    let whole : place ≡ length bs = omega (arith, length-drop place bs, ap length none-left) in
-    (s ∙ whole,
-    g .buffer ∙ ap (λ k. take k bs ++ drop place old) whole ∙ ap (λ l. l ++ drop place old) (take-all (length bs) bs (omega arith)) ∙ ap (λ k. bs ++ drop k old) (sym s))
+    let whole : place ≡ length bs = omega (arith, length-drop place bs, ap length none-left) in (
+      s ∙ whole,
+      g .buffer ∙ ap (λ k. take k bs ++ drop place old) whole ∙ ap (λ l. l ++ drop place old) (take-all (length bs) bs (omega arith)) ∙ ap (λ k. bs ++ drop k old) (sym s),
+    )
 
 pub whole-answer : (bs old : List ℕ) (n u : ℕ) → Ok n ≡ readModule bs → length bs ≤ length old → u ≡ length bs → Ok u ≡ rewriting bs old (readModule bs)
 whole-answer bs old n u e fits same =

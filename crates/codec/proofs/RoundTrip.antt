@@ -12,7 +12,7 @@ use Rattle.std.specs.declared.result.Result.{Result}
 use Rattle.std.specs.declared.result.Result.the-variants.{Ok, Err}
 use Rattle.bytecode.specs.declared.refusals.Fault.{Fault}
 use Rattle.bytecode.specs.Records.{Shown, bytesOf, formed}
-use Rattle.bytecode.specs.Writing.{writing, filled}
+use Rattle.codec.specs.Writing.{writing, filled}
 use Rattle.grammar.specs.Grammar.{ModuleRow}
 use Rattle.grammar.proofs.Built.{module-taken}
 use Rattle.codec.specs.Readable.{written, IsModule}

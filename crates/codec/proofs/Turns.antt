@@ -14,11 +14,11 @@ use Rattle.std.specs.declared.result.Result.the-variants.{Ok, Err}
 use Rattle.bytecode.specs.declared.refusals.Fault.{Fault}
 use Rattle.bytecode.specs.declared.refusals.Reason.{Reason}
 use Rattle.bytecode.specs.declared.refusals.Reason.the-variants.{BytesAfterEnd, MissingEnd}
-use Rattle.bytecode.specs.Reading.{Read, readOne}
+use Rattle.codec.specs.FirstRecord.{Read, readOne}
 use Rattle.bytecode.specs.Records.{Shown, bytesOf}
 use Rattle.bytecode.specs.Refusals.{fault}
-use Rattle.bytecode.specs.Walking.{At, placed}
-use Rattle.bytecode.proofs.FirstRecord.{read-length, read-front}
+use Rattle.codec.specs.Walking.{At, placed}
+use Rattle.codec.proofs.FirstRecord.{read-length, read-front}
 use Rattle.grammar.specs.declared.order.Progress.{Progress}
 use Rattle.grammar.specs.Order.{advance, isEnd, start}
 use Rattle.codec.specs.Reading.{Cut, cutting, cut, noBytes, judging, judged, readModule}

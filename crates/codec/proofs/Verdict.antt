@@ -15,10 +15,10 @@ use Rattle.std.specs.declared.result.Result.the-variants.{Ok, Err}
 use Rattle.bytecode.specs.declared.refusals.Fault.{Fault}
 use Rattle.bytecode.specs.declared.refusals.Reason.{Reason}
 use Rattle.bytecode.specs.declared.refusals.Reason.the-variants.{MissingEnd, UnknownKind, CutRecord, WrongBodyLength, BytesAfterEnd, OutOfOrder, TooMany, TooLong, OutOfRange, NoRoom}
-use Rattle.bytecode.specs.Reading.{Read, readOne}
+use Rattle.codec.specs.FirstRecord.{Read, readOne}
 use Rattle.bytecode.specs.Records.{Shown, bytesOf, formed}
 use Rattle.bytecode.specs.Refusals.{fault}
-use Rattle.bytecode.proofs.FirstRecord.{read-length, read-front, read-formed, reads-front, unread-number}
+use Rattle.codec.proofs.FirstRecord.{read-length, read-front, read-formed, reads-front, unread-number}
 use Rattle.grammar.specs.declared.order.Progress.{Progress}
 use Rattle.grammar.specs.Grammar.{ModuleRow, Begins}
 use Rattle.grammar.specs.Order.{partOf, isEnd, mayFollow, advance, start}

@@ -8,7 +8,7 @@ use Rattle.std.specs.declared.result.Result.the-variants.{Ok, Err}
 use Rattle.bytecode.specs.declared.refusals.Fault.{Fault}
 use Rattle.bytecode.specs.declared.refusals.Reason.{Reason}
 use Rattle.bytecode.specs.declared.refusals.Reason.the-variants.{BytesAfterEnd, TooLong}
-use Rattle.bytecode.specs.Reading.{readOne}
+use Rattle.codec.specs.FirstRecord.{readOne}
 use Rattle.bytecode.specs.Records.{Shown, bytesOf}
 use Rattle.bytecode.specs.Refusals.{fault, number}
 use Rattle.grammar.specs.Grammar.{ModuleRow, Begins}

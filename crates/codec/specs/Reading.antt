@@ -9,7 +9,7 @@ use Rattle.std.specs.declared.result.Result.the-variants.{Ok, Err}
 use Rattle.bytecode.specs.declared.refusals.Fault.{Fault}
 use Rattle.bytecode.specs.declared.refusals.Reason.{Reason}
 use Rattle.bytecode.specs.declared.refusals.Reason.the-variants.{MissingEnd, UnknownKind, CutRecord, WrongBodyLength, BytesAfterEnd, OutOfOrder, TooMany, TooLong, OutOfRange, NoRoom}
-use Rattle.bytecode.specs.Reading.{Read, readOne}
+use Rattle.codec.specs.FirstRecord.{Read, readOne}
 use Rattle.bytecode.specs.Records.{Shown, bytesOf}
 use Rattle.bytecode.specs.Refusals.{fault}
 use Rattle.grammar.specs.declared.order.Progress.{Progress}

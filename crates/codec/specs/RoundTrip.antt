@@ -12,7 +12,7 @@ use Rattle.bytecode.specs.declared.refusals.Fault.{Fault}
 use Rattle.bytecode.specs.declared.refusals.Reason.the-variants.{MissingEnd, NoRoom}
 use Rattle.bytecode.specs.Records.{Shown}
 use Rattle.bytecode.specs.Refusals.{fault}
-use Rattle.bytecode.specs.Writing.{writing, filled}
+use Rattle.codec.specs.Writing.{writing, filled}
 use Rattle.grammar.specs.Grammar.{ModuleRow}
 use Rattle.codec.specs.Readable.{written}
 use Rattle.codec.specs.Reading.{Cut, cut, readModule}

@@ -8,10 +8,10 @@ ghost use Rattle.std.specs.declared.result.Result.the-variants.{Ok};
 ghost use Rattle.codec.specs.Readable.{IsModule, Refused};
 ghost use Rattle.codec.specs.Reading.{readModule};
 ghost use Rattle.codec.specs.RoundTrip.{rewriting, rewritten};
+use super::walk::Walk;
+use super::writing::write_record;
 use bytecode::Fault;
 use bytecode::Reason;
-use bytecode::Walk;
-use bytecode::write_record;
 use grammar::Progress;
 
 pub const MAX_MODULE: usize = 4096;
@@ -41,10 +41,10 @@ fn judge(bytes: &[u8]) -> Result<usize, Fault>
         }
         records += 1;
     }
-    if walk.place() < bytes.len() {
+    if walk.place < bytes.len() {
         return Err(Fault {
             reason: Reason::BytesAfterEnd,
-            place: walk.place(),
+            place: walk.place,
         });
     }
     Ok(records)

@@ -6,10 +6,8 @@ pub fn reading_and_writing_are_inverse()
     ensures bytes { λ _. ⌜ Writing-restores-bytes ⌝ }
     ensures records { λ _. ⌜ Reading-restores-records ⌝ }
     ensures modules { λ _. ⌜ Reading-restores-modules ⌝ }
-{
-}
+{}
 
 pub fn examples_read_so()
     ensures { λ _. ⌜ Examples-read-so ⌝ }
-{
-}
+{}

@@ -93,8 +93,8 @@ function-taken xs f p zs follows few rest =
     let n1 : p1 .params ≡ length ps = params-of-row (length ps) p0 ∙ omega arith in
     let n2 : p2 .params ≡ length ps = kept-by-row Answer (λ q. q .params) (λ q. refl) (length rs) p1 ∙ n1 in
     let g4 : p4 .functions ≡ p .functions + 1 =
-        kept-by-row Code (λ q. q .functions) (λ q. refl) (length cs) p3 ∙ kept-by-row Local (λ q. q .functions) (λ q. refl) (length ls) p2
-        ∙ kept-by-row Answer (λ q. q .functions) (λ q. refl) (length rs) p1 ∙ kept-by-row Param (λ q. q .functions) (λ q. refl) (length ps) p0 in
+    kept-by-row Code (λ q. q .functions) (λ q. refl) (length cs) p3 ∙ kept-by-row Local (λ q. q .functions) (λ q. refl) (length ls) p2
+    ∙ kept-by-row Answer (λ q. q .functions) (λ q. refl) (length rs) p1 ∙ kept-by-row Param (λ q. q .functions) (λ q. refl) (length ps) p0 in
     let d1 : same (p1 .last) Answer ≡ false = l1 (other Answer) refl refl in
     let d2 : same (p2 .last) Local ≡ false = l2 (other Local) refl refl refl in
     let d3 : same (p3 .last) Code ≡ false = l3 (other Code) refl refl refl refl in

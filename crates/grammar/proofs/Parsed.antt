@@ -16,7 +16,7 @@ use Rattle.grammar.specs.declared.order.Part.the-variants.{Start, Module, Stru
 use Rattle.grammar.specs.declared.order.Progress.{Progress}
 use Rattle.grammar.specs.Grammar.{Is, Each, none, more, Row, Rows, no-more, and, StructRow, FunctionRow, ModuleRow}
 use Rattle.grammar.specs.Order.{partOf, rank, same, isEnd, mayFollow, most, had, after, advance, start}
-use Rattle.grammar.proofs.Steps.{Accepts, over, next, Step, step-from}
+use Rattle.grammar.proofs.Steps.{never, Accepts, over, next, Step, step-from}
 
 -- whether the last part is one of those from one rank up to another
 abbrev between : ℕ → ℕ → Progress → Bool
@@ -39,28 +39,34 @@ record Left (p : Progress) (fields structs params results locals code functions 
   pub has-functions : functions ≤ room 1 8 p (16 - p .functions)
   pub has-end : ends ≡ room 1 8 p 1
 
--- what is left of a module, after this progress
-record Rest (p : Progress) (xs : List Shown) : Type 0 where
-  pub fields : List Shown
-  pub structs : List Shown
-  pub params : List Shown
-  pub results : List Shown
-  pub locals : List Shown
-  pub code : List Shown
-  pub functions : List Shown
-  pub ends : List Shown
-  pub struct-rows : ℕ
-  pub function-rows : ℕ
-  pub all : xs ≡ fields ++ (structs ++ (params ++ (results ++ (locals ++ (code ++ (functions ++ ends))))))
-  pub are-fields : Each Field fields
-  pub are-structs : Rows StructRow struct-rows structs
-  pub are-params : Each Param params
-  pub are-results : Each Answer results
-  pub are-locals : Each Local locals
-  pub are-code : Each Code code
-  pub are-functions : Rows FunctionRow function-rows functions
-  pub are-ends : Each End ends
-  pub numbers : Left p (length fields) struct-rows (length params) (length results) (length locals) (length code) function-rows (length ends)
+-- records of one part, and rows of one form
+record Segment (part : Part) : Type 0 where
+  pub items : List Shown
+  pub each : Each part items
+
+record Group (Form : List Shown → Type 0) : Type 0 where
+  pub items : List Shown
+  pub rows : ℕ
+  pub each : Rows Form rows items
+
+abbrev nil : {part : Part} → Segment part
+nil = record { items = []; each = none }
+
+abbrev cons : {part : Part} (x : Shown) → Is part x → Segment part → Segment part
+cons x i s = record { items = x ∷ s .items; each = more i (s .each) }
+
+abbrev no-group : {Form : List Shown → Type 0} → Group Form
+no-group = record { items = []; rows = 0; each = no-more }
+
+abbrev grouped : {Form : List Shown → Type 0} (xs : List Shown) → Form xs → Group Form → Group Form
+grouped xs f g = record { items = xs ++ g .items; rows = suc (g .rows); each = and f (g .each) }
+
+-- what is left of a module after this progress: fields and structs, then the parts of a function and functions, and the end
+data Rest (p : Progress) (xs : List Shown) : Type 0 where
+  rest : (fs : Segment Field) (ss : Group StructRow) (ps : Segment Param) (rs : Segment Answer) (ls : Segment Local) (cs : Segment Code) (gs : Group FunctionRow) (es : Segment End)
+      → xs ≡ fs .items ++ (ss .items ++ (ps .items ++ (rs .items ++ (ls .items ++ (cs .items ++ (gs .items ++ es .items))))))
+      → Left p (length (fs .items)) (ss .rows) (length (ps .items)) (length (rs .items)) (length (ls .items)) (length (cs .items)) (gs .rows) (length (es .items))
+      → Rest p xs
 
 -- how the numbers change by one record in front, part by part
 module _ (p : Progress) (a b c d e f g h : ℕ) where
@@ -104,130 +110,94 @@ empty : (xs : List Shown) → length xs ≤ 0 → xs ≡ []
 empty [] h = refl
 empty (x ∷ xs) h = absurd (omega arith)
 
--- parts that come no more
-module _ {p : Progress} {xs : List Shown} (r : Rest p xs) where
-  from-params : 4 ≤ rank (p .last) → xs ≡ r .params ++ (r .results ++ (r .locals ++ (r .code ++ (r .functions ++ r .ends))))
+-- where parts come no more, the rest begins with those that may
+module _ {p : Progress} {xs : List Shown} (fs : Segment Field) (ss : Group StructRow) (ps : Segment Param) (rs : Segment Answer) (ls : Segment Local) (cs : Segment Code) (gs : Group FunctionRow) (es : Segment End)
+    (all : xs ≡ fs .items ++ (ss .items ++ (ps .items ++ (rs .items ++ (ls .items ++ (cs .items ++ (gs .items ++ es .items)))))))
+    (l : Left p (length (fs .items)) (ss .rows) (length (ps .items)) (length (rs .items)) (length (ls .items)) (length (cs .items)) (gs .rows) (length (es .items))) where
+  from-params : 4 ≤ rank (p .last) → xs ≡ ps .items ++ (rs .items ++ (ls .items ++ (cs .items ++ (gs .items ++ es .items))))
   from-params h =
-      let l = r .numbers in
-      let a : length (r .fields) ≤ 0 = grind (arith, tells) in
-      let b : r .struct-rows ≤ 0 = grind (arith, tells) in
-      without (without (r .all) (empty _ a)) (no-rows _ (r .are-structs) b)
+      let a : length (fs .items) ≤ 0 = grind (arith, tells) in
+      let b : ss .rows ≤ 0 = grind (arith, tells) in
+      without (without all (empty _ a)) (no-rows _ (ss .each) b)
 
-  from-results : 6 ≤ rank (p .last) → xs ≡ r .results ++ (r .locals ++ (r .code ++ (r .functions ++ r .ends)))
+  from-results : 6 ≤ rank (p .last) → xs ≡ rs .items ++ (ls .items ++ (cs .items ++ (gs .items ++ es .items)))
   from-results h =
-      let l = r .numbers in
-      let a : length (r .params) ≤ 0 = grind (arith, tells) in
+      let a : length (ps .items) ≤ 0 = grind (arith, tells) in
       without (from-params (omega arith)) (empty _ a)
 
-  from-locals : 7 ≤ rank (p .last) → xs ≡ r .locals ++ (r .code ++ (r .functions ++ r .ends))
+  from-locals : 7 ≤ rank (p .last) → xs ≡ ls .items ++ (cs .items ++ (gs .items ++ es .items))
   from-locals h =
-      let l = r .numbers in
-      let a : length (r .results) ≤ 0 = grind (arith, tells) in
+      let a : length (rs .items) ≤ 0 = grind (arith, tells) in
       without (from-results (omega arith)) (empty _ a)
 
-  from-code : 8 ≤ rank (p .last) → xs ≡ r .code ++ (r .functions ++ r .ends)
+  from-code : 8 ≤ rank (p .last) → xs ≡ cs .items ++ (gs .items ++ es .items)
   from-code h =
-      let l = r .numbers in
-      let a : length (r .locals) ≤ 0 = grind (arith, tells) in
+      let a : length (ls .items) ≤ 0 = grind (arith, tells) in
       without (from-locals (omega arith)) (empty _ a)
 
   from-end : 9 ≤ rank (p .last) → xs ≡ []
   from-end h =
-      let l = r .numbers in
-      let a : length (r .code) ≤ 0 = grind (arith, tells) in
-      let b : r .function-rows ≤ 0 = grind (arith, tells) in
-      let c : length (r .ends) ≤ 0 = grind (arith, tells) in
-      without (without (from-code (omega arith)) (empty _ a)) (no-rows _ (r .are-functions) b) ∙ empty _ c
+      let a : length (cs .items) ≤ 0 = grind (arith, tells) in
+      let b : gs .rows ≤ 0 = grind (arith, tells) in
+      let c : length (es .items) ≤ 0 = grind (arith, tells) in
+      without (without (from-code (omega arith)) (empty _ a)) (no-rows _ (gs .each) b) ∙ empty _ c
+
+-- a header and what is left behind it make a struct, or a function
+struct-row : (p : Progress) (x : Shown) (fs : Segment Field) {b c d e f g h : ℕ} → Is Struct x → Left (after p Struct) (length (fs .items)) b c d e f g h → StructRow (x ∷ fs .items)
+struct-row p x fs i l =
+    let enough : 1 ≤ length (fs .items) = grind (arith, tells) in
+    let few : length (fs .items) ≤ 8 = grind (arith, tells) in
+    record { header = x; fields = fs .items; all = refl; is-struct = i; has-fields = record { each = fs .each; enough = enough; few = few } }
+
+function-row : (p : Progress) (x : Shown) (ps : Segment Param) (rs : Segment Answer) (ls : Segment Local) (cs : Segment Code) {a b g h : ℕ} → Is Function x
+    → Left (after p Function) a b (length (ps .items)) (length (rs .items)) (length (ls .items)) (length (cs .items)) g h
+    → FunctionRow (x ∷ (ps .items ++ (rs .items ++ (ls .items ++ cs .items))))
+function-row p x ps rs ls cs i l =
+    let few-params : length (ps .items) ≤ 8 = grind (arith, tells) in
+    let few-results : length (rs .items) ≤ 4 = grind (arith, tells) in
+    let few-slots : length (ps .items) + length (ls .items) ≤ 16 = grind (arith, tells) in
+    let some-code : 1 ≤ length (cs .items) = grind (arith, tells) in
+    let few-code : length (cs .items) ≤ 128 = grind (arith, tells) in
+    record {
+      header = x;
+      params = ps .items;
+      results = rs .items;
+      locals = ls .items;
+      code = cs .items;
+      all = refl;
+      is-function = i;
+      has-params = record { each = ps .each; enough = omega arith; few = few-params };
+      has-results = record { each = rs .each; enough = omega arith; few = few-results };
+      has-locals = record { each = ls .each; enough = omega arith; few = omega arith };
+      has-code = record { each = cs .each; enough = some-code; few = few-code };
+      few-slots = few-slots;
+    }
 
 -- one record in front of what is left
 module _ (p : Progress) (x : Shown) (xs : List Shown) where
   in-front : (part : Part) → Is part x → mayFollow (p .last) part ≡ true → had p part < most part → 1 ≤ rank (p .last) → Rest (after p part) xs → Rest p (x ∷ xs)
-  in-front Start i follows fits begun r = absurd (let z : _≡_ {A = ℕ} 0 1 = cc in omega arith)
+  in-front Start i follows fits begun r = absurd (never follows)
   in-front Module i follows fits begun r = absurd (grind (arith, tells))
-  in-front Struct i follows fits begun r =
-      let l = r .numbers in
-      let enough : 1 ≤ length (r .fields) = grind (arith, tells) in
-      let few : length (r .fields) ≤ 8 = grind (arith, tells) in
-      let row : StructRow (x ∷ r .fields) = record { header = x; fields = r .fields; all = refl; is-struct = i; has-fields = record { each = r .are-fields; enough = enough; few = few } } in
-      record {
-        fields = []; structs = (x ∷ r .fields) ++ r .structs; params = r .params; results = r .results; locals = r .locals; code = r .code; functions = r .functions; ends = r .ends;
-        struct-rows = suc (r .struct-rows); function-rows = r .function-rows;
-        all = ap (λ t. x ∷ t) (r .all ∙ sym (append-assoc (r .fields) (r .structs) _));
-        are-fields = none; are-structs = and row (r .are-structs); are-params = r .are-params; are-results = r .are-results; are-locals = r .are-locals; are-code = r .are-code;
-        are-functions = r .are-functions; are-ends = r .are-ends;
-        numbers = left-struct p _ _ _ _ _ _ _ _ follows fits l;
-      }
-  in-front Field i follows fits begun r = record {
-    fields = x ∷ r .fields; structs = r .structs; params = r .params; results = r .results; locals = r .locals; code = r .code; functions = r .functions; ends = r .ends;
-    struct-rows = r .struct-rows; function-rows = r .function-rows;
-    all = ap (λ t. x ∷ t) (r .all);
-    are-fields = more i (r .are-fields); are-structs = r .are-structs; are-params = r .are-params; are-results = r .are-results; are-locals = r .are-locals; are-code = r .are-code;
-    are-functions = r .are-functions; are-ends = r .are-ends;
-    numbers = left-field p _ _ _ _ _ _ _ _ follows fits (r .numbers);
-  }
-  in-front Function i follows fits begun r =
-      let l = r .numbers in
-      let few-params : length (r .params) ≤ 8 = grind (arith, tells) in
-      let few-results : length (r .results) ≤ 4 = grind (arith, tells) in
-      let few-slots : length (r .params) + length (r .locals) ≤ 16 = grind (arith, tells) in
-      let some-code : 1 ≤ length (r .code) = grind (arith, tells) in
-      let few-code : length (r .code) ≤ 128 = grind (arith, tells) in
-      let row : FunctionRow (x ∷ (r .params ++ (r .results ++ (r .locals ++ r .code)))) = record {
-        header = x; params = r .params; results = r .results; locals = r .locals; code = r .code; all = refl; is-function = i;
-        has-params = record { each = r .are-params; enough = omega arith; few = few-params };
-        has-results = record { each = r .are-results; enough = omega arith; few = few-results };
-        has-locals = record { each = r .are-locals; enough = omega arith; few = omega arith };
-        has-code = record { each = r .are-code; enough = some-code; few = few-code };
-        few-slots = few-slots;
-      } in
-      record {
-        fields = []; structs = []; params = []; results = []; locals = []; code = []; functions = (x ∷ (r .params ++ (r .results ++ (r .locals ++ r .code)))) ++ r .functions; ends = r .ends;
-        struct-rows = 0; function-rows = suc (r .function-rows);
-        all = ap (λ t. x ∷ t) (from-params r (omega arith) ∙ simp append-assoc);
-        are-fields = none; are-structs = no-more; are-params = none; are-results = none; are-locals = none; are-code = none;
-        are-functions = and row (r .are-functions); are-ends = r .are-ends;
-        numbers = left-function p _ _ _ _ _ _ _ _ follows fits l;
-      }
-  in-front Param i follows fits begun r = record {
-    fields = []; structs = []; params = x ∷ r .params; results = r .results; locals = r .locals; code = r .code; functions = r .functions; ends = r .ends;
-    struct-rows = 0; function-rows = r .function-rows;
-    all = ap (λ t. x ∷ t) (from-params r (omega arith));
-    are-fields = none; are-structs = no-more; are-params = more i (r .are-params); are-results = r .are-results; are-locals = r .are-locals; are-code = r .are-code;
-    are-functions = r .are-functions; are-ends = r .are-ends;
-    numbers = left-param p _ _ _ _ _ _ _ _ follows fits (r .numbers);
-  }
-  in-front Answer i follows fits begun r = record {
-    fields = []; structs = []; params = []; results = x ∷ r .results; locals = r .locals; code = r .code; functions = r .functions; ends = r .ends;
-    struct-rows = 0; function-rows = r .function-rows;
-    all = ap (λ t. x ∷ t) (from-results r (omega arith));
-    are-fields = none; are-structs = no-more; are-params = none; are-results = more i (r .are-results); are-locals = r .are-locals; are-code = r .are-code;
-    are-functions = r .are-functions; are-ends = r .are-ends;
-    numbers = left-result p _ _ _ _ _ _ _ _ follows fits (r .numbers);
-  }
-  in-front Local i follows fits begun r = record {
-    fields = []; structs = []; params = []; results = []; locals = x ∷ r .locals; code = r .code; functions = r .functions; ends = r .ends;
-    struct-rows = 0; function-rows = r .function-rows;
-    all = ap (λ t. x ∷ t) (from-locals r (omega arith));
-    are-fields = none; are-structs = no-more; are-params = none; are-results = none; are-locals = more i (r .are-locals); are-code = r .are-code;
-    are-functions = r .are-functions; are-ends = r .are-ends;
-    numbers = left-local p _ _ _ _ _ _ _ _ follows fits (r .numbers);
-  }
-  in-front Code i follows fits begun r = record {
-    fields = []; structs = []; params = []; results = []; locals = []; code = x ∷ r .code; functions = r .functions; ends = r .ends;
-    struct-rows = 0; function-rows = r .function-rows;
-    all = ap (λ t. x ∷ t) (from-code r (omega arith));
-    are-fields = none; are-structs = no-more; are-params = none; are-results = none; are-locals = none; are-code = more i (r .are-code);
-    are-functions = r .are-functions; are-ends = r .are-ends;
-    numbers = left-code p _ _ _ _ _ _ _ _ follows fits (r .numbers);
-  }
-  in-front End i follows fits begun r = record {
-    fields = []; structs = []; params = []; results = []; locals = []; code = []; functions = []; ends = x ∷ [];
-    struct-rows = 0; function-rows = 0;
-    all = ap (λ t. x ∷ t) (from-end r (omega arith));
-    are-fields = none; are-structs = no-more; are-params = none; are-results = none; are-locals = none; are-code = none;
-    are-functions = no-more; are-ends = more i none;
-    numbers = left-end p follows;
-  }
+  in-front Struct i follows fits begun (rest fs ss ps rs ls cs gs es all l) =
+      rest nil (grouped (x ∷ fs .items) (struct-row p x fs i l) ss) ps rs ls cs gs es
+      (ap (λ t. x ∷ t) (all ∙ sym (append-assoc (fs .items) (ss .items) _)))
+      (left-struct p _ _ _ _ _ _ _ _ follows fits l)
+  in-front Field i follows fits begun (rest fs ss ps rs ls cs gs es all l) =
+      rest (cons x i fs) ss ps rs ls cs gs es (ap (λ t. x ∷ t) all) (left-field p _ _ _ _ _ _ _ _ follows fits l)
+  in-front Function i follows fits begun (rest fs ss ps rs ls cs gs es all l) =
+      rest nil no-group nil nil nil nil (grouped (x ∷ (ps .items ++ (rs .items ++ (ls .items ++ cs .items)))) (function-row p x ps rs ls cs i l) gs) es
+      (ap (λ t. x ∷ t) (from-params fs ss ps rs ls cs gs es all l (omega arith) ∙ simp append-assoc))
+      (left-function p _ _ _ _ _ _ _ _ follows fits l)
+  in-front Param i follows fits begun (rest fs ss ps rs ls cs gs es all l) =
+      rest nil no-group (cons x i ps) rs ls cs gs es (ap (λ t. x ∷ t) (from-params fs ss ps rs ls cs gs es all l (omega arith))) (left-param p _ _ _ _ _ _ _ _ follows fits l)
+  in-front Answer i follows fits begun (rest fs ss ps rs ls cs gs es all l) =
+      rest nil no-group nil (cons x i rs) ls cs gs es (ap (λ t. x ∷ t) (from-results fs ss ps rs ls cs gs es all l (omega arith))) (left-result p _ _ _ _ _ _ _ _ follows fits l)
+  in-front Local i follows fits begun (rest fs ss ps rs ls cs gs es all l) =
+      rest nil no-group nil nil (cons x i ls) cs gs es (ap (λ t. x ∷ t) (from-locals fs ss ps rs ls cs gs es all l (omega arith))) (left-local p _ _ _ _ _ _ _ _ follows fits l)
+  in-front Code i follows fits begun (rest fs ss ps rs ls cs gs es all l) =
+      rest nil no-group nil nil nil (cons x i cs) gs es (ap (λ t. x ∷ t) (from-code fs ss ps rs ls cs gs es all l (omega arith))) (left-code p _ _ _ _ _ _ _ _ follows fits l)
+  in-front End i follows fits begun (rest fs ss ps rs ls cs gs es all l) =
+      rest nil no-group nil nil nil nil no-group (cons x i nil) (ap (λ t. x ∷ t) (from-end fs ss ps rs ls cs gs es all l (omega arith))) (left-end p follows)
 
 -- the part that a step put last
 step-is : {p q : Progress} {x : Shown} → formed x ≡ Ok x → Step p x q → Is (partOf (x .0)) x
@@ -235,7 +205,7 @@ step-is w s = record { kind = refl; whole = w; ranged = s .ranged }
 
 -- behind a step some record stands
 begun-after : (p : Progress) (part : Part) → mayFollow (p .last) part ≡ true → 1 ≤ rank part
-begun-after p Start follows = absurd (let z : _≡_ {A = ℕ} 0 1 = cc in omega arith)
+begun-after p Start follows = absurd (never follows)
 begun-after p Module follows = omega arith
 begun-after p Struct follows = omega arith
 begun-after p Field follows = omega arith
@@ -247,14 +217,7 @@ begun-after p Code follows = omega arith
 begun-after p End follows = omega arith
 
 rest-of : {p : Progress} {xs : List Shown} → Accepts p xs → 1 ≤ rank (p .last) → Rest p xs
-rest-of {p} (over ended) begun = record {
-  fields = []; structs = []; params = []; results = []; locals = []; code = []; functions = []; ends = [];
-  struct-rows = 0; function-rows = 0;
-  all = refl;
-  are-fields = none; are-structs = no-more; are-params = none; are-results = none; are-locals = none; are-code = none;
-  are-functions = no-more; are-ends = none;
-  numbers = left-none p ended;
-}
+rest-of {p} (over ended) begun = rest nil no-group nil nil nil nil no-group nil refl (left-none p ended)
 rest-of {p} (next {q = q} {x = x} {xs = xs} w a more-records) begun =
     let s = step-from p x q a in
     let begun-next = subst (λ t. 1 ≤ rank (t .last)) (sym (s .then)) (begun-after p (partOf (x .0)) (s .follows)) in
@@ -268,16 +231,16 @@ rows-up n (suc m) h (and {n = k} f fs) = and f (rows-up k m (omega arith) fs)
 
 -- only MODULE comes first
 module-first : (part : Part) → mayFollow Start part ≡ true → part ≡ Module
-module-first Start follows = absurd (let z : _≡_ {A = ℕ} 0 1 = cc in omega arith)
+module-first Start follows = absurd (never follows)
 module-first Module follows = refl
-module-first Struct follows = absurd (let z : _≡_ {A = ℕ} 0 1 = cc in omega arith)
-module-first Field follows = absurd (let z : _≡_ {A = ℕ} 0 1 = cc in omega arith)
-module-first Function follows = absurd (let z : _≡_ {A = ℕ} 0 1 = cc in omega arith)
-module-first Param follows = absurd (let z : _≡_ {A = ℕ} 0 1 = cc in omega arith)
-module-first Answer follows = absurd (let z : _≡_ {A = ℕ} 0 1 = cc in omega arith)
-module-first Local follows = absurd (let z : _≡_ {A = ℕ} 0 1 = cc in omega arith)
-module-first Code follows = absurd (let z : _≡_ {A = ℕ} 0 1 = cc in omega arith)
-module-first End follows = absurd (let z : _≡_ {A = ℕ} 0 1 = cc in omega arith)
+module-first Struct follows = absurd (never follows)
+module-first Field follows = absurd (never follows)
+module-first Function follows = absurd (never follows)
+module-first Param follows = absurd (never follows)
+module-first Answer follows = absurd (never follows)
+module-first Local follows = absurd (never follows)
+module-first Code follows = absurd (never follows)
+module-first End follows = absurd (never follows)
 
 -- one record of a part
 record Single (part : Part) (xs : List Shown) : Type 0 where
@@ -291,26 +254,25 @@ single (more {x} i none) h = record { only = x; alone = refl; is = i }
 single (more i (more k each)) h = absurd (omega arith)
 
 module-of : (x : Shown) (xs : List Shown) → Is Module x → Rest (after start Module) xs → ModuleRow (x ∷ xs)
-module-of x xs i r =
-    let l = r .numbers in
-    let a : length (r .fields) ≤ 0 = l .has-fields in
-    let c : length (r .params) ≤ 0 = l .has-params in
-    let d : length (r .results) ≤ 0 = l .has-results in
-    let e : length (r .locals) ≤ 0 = omega (arith, l .has-locals) in
-    let f : length (r .code) ≤ 0 = l .has-code in
-    let s = single (r .are-ends) (l .has-end) in
-    let all : xs ≡ r .structs ++ (r .functions ++ r .ends) =
-        without (r .all) (empty _ a)
-        ∙ ap (λ t. r .structs ++ t) (without (without (without (without refl (empty _ c)) (empty _ d)) (empty _ e)) (empty _ f)) in
+module-of x xs i (rest fs ss ps rs ls cs gs es all l) =
+    let a : length (fs .items) ≤ 0 = l .has-fields in
+    let c : length (ps .items) ≤ 0 = l .has-params in
+    let d : length (rs .items) ≤ 0 = l .has-results in
+    let e : length (ls .items) ≤ 0 = omega (arith, l .has-locals) in
+    let f : length (cs .items) ≤ 0 = l .has-code in
+    let s = single (es .each) (l .has-end) in
+    let short : xs ≡ ss .items ++ (gs .items ++ es .items) =
+    without all (empty _ a)
+    ∙ ap (λ t. ss .items ++ t) (without (without (without (without refl (empty _ c)) (empty _ d)) (empty _ e)) (empty _ f)) in
     record {
       header = x;
-      structs = r .structs;
-      functions = r .functions;
+      structs = ss .items;
+      functions = gs .items;
       end = s .only;
-      all = ap (λ t. x ∷ t) (all ∙ ap (λ t. r .structs ++ (r .functions ++ t)) (s .alone));
+      all = ap (λ t. x ∷ t) (short ∙ ap (λ t. ss .items ++ (gs .items ++ t)) (s .alone));
       is-module = i;
-      has-structs = rows-up (r .struct-rows) 8 (l .has-structs) (r .are-structs);
-      has-functions = rows-up (r .function-rows) 16 (l .has-functions) (r .are-functions);
+      has-structs = rows-up (ss .rows) 8 (l .has-structs) (ss .each);
+      has-functions = rows-up (gs .rows) 16 (l .has-functions) (gs .each);
       is-end = s .is;
     }
 

@@ -20,6 +20,9 @@ use Rattle.grammar.specs.declared.order.Progress.{Progress}
 use Rattle.grammar.specs.Grammar.{Is}
 use Rattle.grammar.specs.Order.{partOf, rank, same, isEnd, mayFollow, most, had, after, advance}
 
+pub never : false ≡ true → ⊥
+never e = let z : _≡_ {A = ℕ} 0 1 = cc in omega arith
+
 -- from this progress on, the row ends the module
 pub data Accepts : Progress → List Shown → Type 0 where
   over : {p : Progress} → isEnd (p .last) ≡ true → Accepts p []
@@ -53,7 +56,7 @@ step-to p part x i follows fits =
 
 -- nothing follows the end
 follows-open : (last part : Part) → mayFollow last part ≡ true → isEnd last ≡ false
-follows-open last Start h = absurd (let z : _≡_ {A = ℕ} 0 1 = cc in omega arith)
+follows-open last Start h = absurd (never h)
 follows-open last Module h = grind (arith, tells)
 follows-open last Struct h = grind (arith, tells)
 follows-open last Field h = grind (arith, tells)

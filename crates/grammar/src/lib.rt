@@ -1,5 +1,4 @@
 // The grammar of a module: which records it has, in which order, and how many.
 mod order;
 
-pub use order::Part;
 pub use order::Progress;

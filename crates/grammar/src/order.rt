@@ -48,7 +48,10 @@ impl Part {
             Part::Function | Part::End => matches!(last, Part::Module | Part::Field | Part::Code),
             Part::Param => matches!(last, Part::Function | Part::Param),
             Part::Result => matches!(last, Part::Function | Part::Param | Part::Result),
-            Part::Local => matches!(last, Part::Function | Part::Param | Part::Result | Part::Local),
+            Part::Local => matches!(
+                last,
+                Part::Function | Part::Param | Part::Result | Part::Local
+            ),
             Part::Code => matches!(
                 last,
                 Part::Function | Part::Param | Part::Result | Part::Local | Part::Code

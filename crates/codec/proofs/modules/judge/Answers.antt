@@ -35,18 +35,18 @@ loop-progress-less c =
 
 pub loop-progress-again : need.loop-progress-again
 loop-progress-again c =
-    let m = met _ _ _ _ _ (c .loop-progress .inv .0) (c .in-Continue-placed .ensures tt .answer) in
-    (c .in-Continue-placed .ensures tt .same ∙ c .loop-progress .inv .0,
-    subst (Going _ _ _) (sym (c .in-Continue-placed .ensures tt .after))
-    (onward (c .loop-progress .inv .1) m (sym (c .loop-progress-test .ensures tt)) _ (sym (c .in-Ok .ensures tt))))
+    let m = met _ _ _ _ _ (c .loop-progress .inv .0) (c .in-Continue-placed .ensures tt .answer) in (
+      c .in-Continue-placed .ensures tt .same ∙ c .loop-progress .inv .0,
+      subst (Going _ _ _) (sym (c .in-Continue-placed .ensures tt .after))
+          (onward (c .loop-progress .inv .1) m (sym (c .loop-progress-test .ensures tt)) _ (sym (c .in-Ok .ensures tt))),
+    )
 
-pub returns-then-place-bytes : need.returns-then-place-bytes
-returns-then-place-bytes c =
+pub returns-then-walk-bytes : need.returns-then-walk-bytes
+returns-then-walk-bytes c =
     within _ _ (c .if-bytes-gt-MAX-MODULE .left)
-    (bytes-behind (c .loop-progress .inv .1) (omega (arith, c .place .ensures)) (sym (c .loop-progress-test .ensures tt))
-    ∙ ap (λ k. Err (fault BytesAfterEnd k)) (sym (c .place-then-place-bytes .ensures)))
+    (bytes-behind (c .loop-progress .inv .1) (omega arith) (sym (c .loop-progress-test .ensures tt)))
 
 pub returns : need.returns
 returns c =
     within _ _ (c .if-bytes-gt-MAX-MODULE .left)
-    (nothing-behind (c .loop-progress .inv .1) (omega (arith, c .place .ensures)) (sym (c .loop-progress-test .ensures tt)))
+    (nothing-behind (c .loop-progress .inv .1) (omega arith) (sym (c .loop-progress-test .ensures tt)))

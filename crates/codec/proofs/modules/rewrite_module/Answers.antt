@@ -7,9 +7,10 @@ use Rattle.codec.proofs.Turns.{met, record-inside}
 use Rattle.codec.proofs.modules.rewrite_module.Needs as need
 
 pub loop-placed-holds : need.loop-placed-holds
-loop-placed-holds c =
-    (c .over-walk .ensures .over,
-    begins _ _ (c .in-Continue-read-module .ensures tt .means) (c .if-buffer-bytes .left) (c .over-walk .ensures .begins))
+loop-placed-holds c = (
+  c .over-walk .ensures .over,
+  begins _ _ (c .in-Continue-read-module .ensures tt .means) (c .if-buffer-bytes .left) (c .over-walk .ensures .begins),
+)
 
 pub returns-in-Break-used : need.returns-in-Break-used
 returns-in-Break-used c =
@@ -24,9 +25,10 @@ loop-placed-less c =
 
 pub loop-placed-again : need.loop-placed-again
 loop-placed-again c =
-    let m = met (c .args .bytes .now) _ _ _ _ (c .loop-placed .inv .0) (c .in-Ok .ensures tt .answer) in
-    (c .in-Ok .ensures tt .same ∙ c .loop-placed .inv .0,
-    turn (c .loop-placed .inv .1) m _ _ _ _ (λ i. (c .kind .ensures i, c .body .ensures i)) (c .in-Continue-used .ensures tt .answer) (c .in-Continue-used .ensures tt .after) (c .in-Ok .ensures tt .after))
+    let m = met (c .args .bytes .now) _ _ _ _ (c .loop-placed .inv .0) (c .in-Ok .ensures tt .answer) in (
+      c .in-Ok .ensures tt .same ∙ c .loop-placed .inv .0,
+      turn (c .loop-placed .inv .1) m _ _ _ _ (λ i. (c .kind .ensures i, c .body .ensures i)) (c .in-Continue-used .ensures tt .answer) (c .in-Continue-used .ensures tt .after) (c .in-Ok .ensures tt .after),
+    )
 
 pub returns : need.returns
 returns c =

@@ -2,8 +2,8 @@
 use mathlib.Core.List.{List}
 use Prim.Native.Nat.{ℕ, zero, suc, _+_, _*_}
 use lib.ListN.{getD}
-use Rattle.bytecode.specs.declared.operands.TypeRef.{TypeRef}
-use Rattle.bytecode.specs.declared.operands.FunctionRef.{FunctionRef}
+use Rattle.operands.specs.declared.numbers.TypeRef.{TypeRef}
+use Rattle.operands.specs.declared.numbers.FunctionRef.{FunctionRef}
 
 -- the number in the n bytes from i on
 abbrev pub lowFirstFrom : ℕ → ℕ → List ℕ → ℕ
@@ -19,4 +19,4 @@ abbrev pub typeRef : List ℕ → TypeRef
 typeRef body = record { «module» = lowFirst 2 body; index = getD body 2 0 }
 
 abbrev pub functionRef : List ℕ → FunctionRef
-functionRef body = record { «module» = lowFirst 2 body; index = getD body 2 0 }
+functionRef body = record { «module» = lowFirst 2 body; function = getD body 2 0 }

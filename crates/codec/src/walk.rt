@@ -1,12 +1,12 @@
 // A walk over the records of a module, one at a time, each with its place.
 ghost use mathlib.Core.Path.{_≡_};
 ghost use lib.ListN.{length, drop};
-ghost use Rattle.bytecode.specs.Reading.{readOne};
-ghost use Rattle.bytecode.specs.Walking.{placed, shownPlaced, placeAfter};
+ghost use Rattle.codec.specs.FirstRecord.{readOne};
+ghost use Rattle.codec.specs.Walking.{placed, shownPlaced, placeAfter};
 use super::reading::read_record;
-use super::records::Record;
-use super::refusals::Fault;
-use super::refusals::Reason;
+use bytecode::Fault;
+use bytecode::Reason;
+use bytecode::Record;
 
 // A record with the offset of its kind byte.
 #[derive(Clone, Copy)]
@@ -19,7 +19,7 @@ pub struct Placed<'a> {
 #[derive(Clone, Copy)]
 pub struct Walk<'a> {
     module: &'a [u8],
-    place: usize,
+    pub place: usize,
 }
 
 impl<'a> Walk<'a> {
@@ -31,12 +31,6 @@ impl<'a> Walk<'a> {
             module: bytes,
             place: 0,
         }
-    }
-
-    pub fn place(&self) -> usize
-        ensures { λ r. ⌜ r ≡ now (self .entry) .place ⌝ }
-    {
-        self.place
     }
 
     // The next record. A refusal leaves the walk where it is.

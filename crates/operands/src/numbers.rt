@@ -1,6 +1,6 @@
 // What the bytes of a record's body say; the low byte comes first.
 ghost use mathlib.Core.Path.{_≡_};
-ghost use Rattle.bytecode.specs.Operands.{lowFirst, typeRef, functionRef};
+ghost use Rattle.operands.specs.Operands.{lowFirst, typeRef, functionRef};
 use std::fmt;
 
 // A type: bool, num and address are 0.0, 0.1 and 0.2, and any other is a struct of its module.
@@ -14,7 +14,7 @@ pub struct TypeRef {
 #[derive(Clone, Copy)]
 pub struct FunctionRef {
     pub module: u16,
-    pub index: u8,
+    pub function: u8,
 }
 
 pub fn module_number(body: &[u8; 2]) -> u16
@@ -45,10 +45,10 @@ impl FunctionRef {
     pub fn of(body: &[u8; 3]) -> FunctionRef
         ensures { λ r. ⌜ r ≡ functionRef (now (body .entry)) ⌝ }
     {
-        let [low, high, index] = *body;
+        let [low, high, function] = *body;
         FunctionRef {
             module: u16::from_le_bytes([low, high]),
-            index,
+            function,
         }
     }
 }

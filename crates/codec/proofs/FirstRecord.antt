@@ -8,13 +8,13 @@ use Rattle.std.proofs.shelf.Lists.{take-rest, take-at, drop-at, drop-all, lengt
 use Rattle.std.proofs.shelf.Ways.{tells}
 use Rattle.std.specs.declared.result.Result.{Result}
 use Rattle.std.specs.declared.result.Result.the-variants.{Ok, Err}
 use Rattle.bytecode.specs.declared.refusals.Reason.{Reason}
 use Rattle.bytecode.specs.declared.refusals.Reason.the-variants.{MissingEnd}
 use Rattle.bytecode.specs.Kinds.{bodyLength}
-use Rattle.bytecode.specs.Reading.{Read, readOne}
+use Rattle.codec.specs.FirstRecord.{Read, readOne}
 use Rattle.bytecode.specs.Records.{Shown, formed, bytesOf}
 use Rattle.bytecode.specs.Refusals.{fault, number}
-use Rattle.bytecode.specs.Walking.{placed}
+use Rattle.codec.specs.Walking.{placed}
 
 -- a slice pattern takes the kind, and a cut at the kind's length takes the body
 pub read-first : (bs : List ℕ) (s : Shown) (n : ℕ) (body after : List ℕ) → 0 < length bs → n ≡ bodyLength (getD bs 0 0) → n ≤ 254 → n ≤ length bs - 1

@@ -1,9 +1,9 @@
 // One record more in a buffer.
 ghost use mathlib.Core.Path.{_≡_};
-ghost use Rattle.bytecode.specs.Writing.{writing, filled};
-use super::records::Record;
-use super::refusals::Fault;
-use super::refusals::Reason;
+ghost use Rattle.codec.specs.Writing.{writing, filled};
+use bytecode::Fault;
+use bytecode::Reason;
+use bytecode::Record;
 
 // Writes a record behind the first `used` bytes of the buffer, and answers how many are used then.
 // A refusal leaves the buffer as it was.

@@ -1,9 +1,9 @@
 use mathlib.Core.Path.{refl, ap}
 use native.Mathlib.Omega.{arith}
 use borrow.Author.Needs.{needs}
-use Rattle.bytecode.specs.Walking.{placed}
-use Rattle.bytecode.proofs.FirstRecord.{no-more, from-place, next-place}
-use Rattle.bytecode.proofs.walk.Walk.next_record.Needs as need
+use Rattle.codec.specs.Walking.{placed}
+use Rattle.codec.proofs.FirstRecord.{no-more, from-place, next-place}
+use Rattle.codec.proofs.walk.Walk.next_record.Needs as need
 
 pub returns-then-place-self : need.returns-then-place-self
 returns-then-place-self c = record { answer = no-more (c .args .self .now .«module» .now) (c .args .self .now .place) (c .if-place-self .taken); after = refl; same = refl }

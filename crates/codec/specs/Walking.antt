@@ -4,12 +4,12 @@ use Prim.Native.Nat.{ℕ, _+_}
 use lib.ListN.{length}
 use Rattle.std.specs.declared.result.Result.{Result}
 use Rattle.std.specs.declared.result.Result.the-variants.{Ok, Err}
 use Rattle.bytecode.specs.declared.refusals.Fault.{Fault}
 use Rattle.bytecode.specs.declared.refusals.Reason.{Reason}
-use Rattle.bytecode.specs.declared.walk.Placed.{Placed}
-use Rattle.bytecode.specs.Reading.{Read}
+use Rattle.codec.specs.declared.walk.Placed.{Placed}
+use Rattle.codec.specs.FirstRecord.{Read}
 use Rattle.bytecode.specs.Records.{Shown, shown, bytesOf}
 use Rattle.bytecode.specs.Refusals.{fault}
 
 -- the offset of the kind byte, and the record
 abbrev pub At : Type 0

@@ -3,8 +3,8 @@ use Prim.Native.Nat.{_+_}
 use lib.ListN.{length}
 use borrow.Author.Needs.{needs}
 use Rattle.std.proofs.shelf.Ways.{tells}
-use Rattle.bytecode.proofs.Appending.{appended}
-use Rattle.bytecode.proofs.writing.write_record.Needs as need
+use Rattle.codec.proofs.Appending.{appended}
+use Rattle.codec.proofs.writing.write_record.Needs as need
 
 pub returns : need.returns
 returns c =

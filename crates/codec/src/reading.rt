@@ -1,10 +1,10 @@
 // The first record of a row of bytes.
 ghost use mathlib.Core.Path.{_≡_};
-ghost use Rattle.bytecode.specs.Reading.{readOne, shownRead};
-use super::kinds::NO_KIND;
-use super::kinds::body_length;
-use super::records::Record;
-use super::refusals::Reason;
+ghost use Rattle.codec.specs.FirstRecord.{readOne, shownRead};
+use bytecode::NO_KIND;
+use bytecode::Reason;
+use bytecode::Record;
+use bytecode::body_length;
 
 // The first record of these bytes, and the bytes after it.
 pub fn read_record<'a>(bytes: &'a [u8]) -> Result<(Record<'a>, &'a [u8]), Reason>

@@ -1,7 +1,7 @@
 use native.Mathlib.Omega.{arith}
 use borrow.Author.Needs.{needs}
-use Rattle.bytecode.proofs.FirstRecord.{read-first}
-use Rattle.bytecode.proofs.reading.read_record.Needs as need
+use Rattle.codec.proofs.FirstRecord.{read-first}
+use Rattle.codec.proofs.reading.read_record.Needs as need
 
 pub returns : need.returns
 returns c =
