@@ -3,3 +3,4 @@ pub mod Names
 pub mod Ranges
 pub mod Records
 pub mod Refusals
+pub mod Texts

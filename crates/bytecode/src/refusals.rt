@@ -1,6 +1,8 @@
 // What the reader and the writer refuse, with the numbers that users see.
 ghost use mathlib.Core.Path.{_≡_};
+ghost use Rattle.std.specs.declared.option.Option.the-variants.{Some};
 ghost use Rattle.bytecode.specs.Refusals.{number};
+ghost use Rattle.bytecode.specs.Texts.{reasonText, faultText};
 use std::fmt;
 
 #[derive(Clone, Copy, Debug, PartialEq, Eq)]
@@ -35,7 +37,9 @@ impl Reason {
         }
     }
 
-    fn words(self) -> &'static str {
+    fn words(self) -> &'static str
+        ensures { λ r. ⌜ now r ≡ reasonText self ⌝ }
+    {
         match self {
             Reason::MissingEnd => "the bytes stop where a record should begin",
             Reason::UnknownKind => "no kind of record has this byte",
@@ -52,6 +56,8 @@ impl Reason {
 }
 
 pub impl fmt::Display for Reason as ReasonDisplay {
+    ghost shown = { λ x. Some (reasonText x) };
+
     fn fmt<W: fmt::Write>(&self, f: &mut fmt::Formatter<W>) -> fmt::Result {
         f.write_str(self.words())
     }
@@ -65,6 +71,8 @@ pub struct Fault {
 }
 
 pub impl fmt::Display for Fault as FaultDisplay {
+    ghost shown = { λ x. Some (faultText x) };
+
     fn fmt<W: fmt::Write>(&self, f: &mut fmt::Formatter<W>) -> fmt::Result {
         let number = self.reason.number();
         let place = self.place;

@@ -64,11 +64,11 @@ module _ {bs : List ℕ} {p : Progress} {n place : ℕ} {before : List Shown} {b
   unfolding reached
   unread why r e = no-record (a .short) (reached a) (taken-part (a .taken) e) r (unread-number behind why r)
 
-  untaken : (x : Read) (why : Reason) → readOne behind ≡ Ok x → advance p (x .0) ≡ Err why → Refused bs (fault why place)
+  untaken : (x : Read) (why : Reason) → readOne behind ≡ Ok x → advance p (x .0) ≡ Err why → isEnd (p .last) ≡ false → Refused bs (fault why place)
   unfolding reached
-  untaken x why r e =
+  untaken x why r e going =
       let n = step-number p (x .0) why e in
-      no-way-on (a .short) (reached a) (x .0) (x .1) r (refused-begins-none (x .0) why (a .taken) e) (n .0) (n .1)
+      no-way-on (a .short) (reached a) (taken-part (a .taken) going) (x .0) (x .1) r (refused-begins-none (x .0) why (a .taken) e) (n .0) (n .1)
 
   -- the next record comes
   taking : (x : Read) (q : Progress) → readOne behind ≡ Ok x → advance p (x .0) ≡ Ok q → At bs q (n + 1) (place + length (bytesOf (x .0))) (before ++ x .0 ∷ []) (x .1)
@@ -120,7 +120,7 @@ record Further (bs : List ℕ) (turns : ℕ) : Type 0 where
 module _ {bs : List ℕ} {p : Progress} {n place : ℕ} {before : List Shown} {behind : List ℕ} (a : At bs p n place before behind) (turns : ℕ) (enough : length behind ≤ suc turns) (ih : Further bs turns) where
   stepped : (x : Read) → readOne behind ≡ Ok x → (r : Result Progress Reason) → advance p (x .0) ≡ r → isEnd (p .last) ≡ false → Verdict bs (from (suc turns) p n place behind)
   unfolding cutting judging
-  stepped x read (Err why) e going = rw (read, going, e) (untaken a x why read e)
+  stepped x read (Err why) e going = rw (read, going, e) (untaken a x why read e going)
   stepped x read (Ok q) e going = rw (read, going, e) (ih .verdict (taking a x q read e) (omega (arith, read-length behind x read)))
 
   met-one : (x : Read) → readOne behind ≡ Ok x → (b : Bool) → isEnd (p .last) ≡ b → Verdict bs (from (suc turns) p n place behind)

@@ -42,6 +42,6 @@ pub data Refused (bs : List ℕ) : Fault → Type 0 where
       → number why ≡ 1 → Refused bs (fault why place)
   -- the module is whole, and there are bytes behind it
   surplus : {place : ℕ} → length bs ≤ 4096 → (r : Reached bs place) → ModuleRow (r .before) → 0 < length (r .behind) → Refused bs (fault BytesAfterEnd place)
-  -- a record begins there with which no module goes on
-  no-way-on : {why : Reason} {place : ℕ} → length bs ≤ 4096 → (r : Reached bs place) → (x : Shown) (rest : List ℕ) → readOne (r .behind) ≡ Ok (x, rest)
+  -- the module is not yet whole, and a record begins there with which no module goes on
+  no-way-on : {why : Reason} {place : ℕ} → length bs ≤ 4096 → (r : Reached bs place) → (ModuleRow (r .before) → ⊥) → (x : Shown) (rest : List ℕ) → readOne (r .behind) ≡ Ok (x, rest)
       → (Begins (r .before ++ x ∷ []) → ⊥) → 2 ≤ number why → number why ≤ 4 → Refused bs (fault why place)

@@ -4,13 +4,13 @@ use mathlib.Core.List.{List, [], _∷_}
 use Prim.Native.Nat.{ℕ, _+_}
 use lib.Dec.{eqb, ltb}
 use Rattle.std.specs.declared.result.Result.{Result}
-use Rattle.std.specs.declared.result.Result.the-variants as answer
+use Rattle.std.specs.declared.result.Result.the-variants as result
 use Rattle.bytecode.specs.declared.refusals.Reason.{Reason}
 use Rattle.bytecode.specs.declared.refusals.Reason.the-variants.{OutOfOrder, TooMany, OutOfRange}
 use Rattle.bytecode.specs.Ranges.{inRange}
 use Rattle.bytecode.specs.Records.{Shown}
 use Rattle.grammar.specs.declared.order.Part.{Part}
-use Rattle.grammar.specs.declared.order.Part.the-variants.{Start, Module, Struct, Field, Function, Param, Result as Answer, Local, Code, End}
+use Rattle.grammar.specs.declared.order.Part.the-variants.{Start, Module, Struct, Field, Function, Param, Result as Res, Local, Code, End}
 use Rattle.grammar.specs.declared.order.Progress.{Progress}
 
 -- the part that a kind of record is: every instruction is code
@@ -22,7 +22,7 @@ partOf k =
     (cond (eqb k 0x03) Field
     (cond (eqb k 0x04) Function
     (cond (eqb k 0x05) Param
-    (cond (eqb k 0x06) Answer
+    (cond (eqb k 0x06) Res
     (cond (eqb k 0x07) Local Code)))))))
 
 abbrev pub rank : Part → ℕ
@@ -32,7 +32,7 @@ rank Struct = 2
 rank Field = 3
 rank Function = 4
 rank Param = 5
-rank Answer = 6
+rank Res = 6
 rank Local = 7
 rank Code = 8
 rank End = 9
@@ -51,9 +51,9 @@ behind Struct = Module ∷ Field ∷ []
 behind Field = Struct ∷ Field ∷ []
 behind Function = Module ∷ Field ∷ Code ∷ []
 behind Param = Function ∷ Param ∷ []
-behind Answer = Function ∷ Param ∷ Answer ∷ []
-behind Local = Function ∷ Param ∷ Answer ∷ Local ∷ []
-behind Code = Function ∷ Param ∷ Answer ∷ Local ∷ Code ∷ []
+behind Res = Function ∷ Param ∷ Res ∷ []
+behind Local = Function ∷ Param ∷ Res ∷ Local ∷ []
+behind Code = Function ∷ Param ∷ Res ∷ Local ∷ Code ∷ []
 behind End = Module ∷ Field ∷ Code ∷ []
 
 abbrev pub oneOf : Part → List Part → Bool
@@ -71,7 +71,7 @@ most Struct = 8
 most Field = 8
 most Function = 16
 most Param = 8
-most Answer = 4
+most Res = 4
 most Local = 16
 most Code = 128
 most End = 1
@@ -88,7 +88,7 @@ had p Struct = p .structs
 had p Field = inRow p Field 0
 had p Function = p .functions
 had p Param = p .params
-had p Answer = inRow p Answer 0
+had p Res = inRow p Res 0
 had p Local = inRow p Local (p .params)
 had p Code = inRow p Code 0
 had p End = inRow p End 0
@@ -111,9 +111,9 @@ abbrev pub advance : Progress → Shown → Result Progress Reason
 advance p x =
     cond (mayFollow (p .last) (partOf (x .0)))
     (cond (ltb (had p (partOf (x .0))) (most (partOf (x .0))))
-    (cond (inRange x) (answer.Ok (after p (partOf (x .0)))) (answer.Err OutOfRange))
-    (answer.Err TooMany))
-    (answer.Err OutOfOrder)
+    (cond (inRange x) (result.Ok (after p (partOf (x .0)))) (result.Err OutOfRange))
+    (result.Err TooMany))
+    (result.Err OutOfOrder)
 
 abbrev pub start : Progress
 start = record { last = Start; count = 0; structs = 0; functions = 0; params = 0 }

@@ -1,9 +1,11 @@
 // What the bytes of a record's body say; the low byte comes first.
 ghost use mathlib.Core.Path.{_≡_};
+ghost use Rattle.std.specs.declared.option.Option.the-variants.{Some};
 ghost use Rattle.operands.specs.Operands.{lowFirst, typeRef, functionRef};
+ghost use Rattle.operands.specs.Texts.{typeText};
 use std::fmt;
 
-// A type: bool, num and address are 0.0, 0.1 and 0.2, and any other is a struct of its module.
+// A type, by a module's number and an index there. In module 0, bool, num and address are 0, 1 and 2; in any other the index counts structs.
 #[derive(Clone, Copy)]
 pub struct TypeRef {
     pub module: u16,
@@ -54,6 +56,8 @@ impl FunctionRef {
 }
 
 pub impl fmt::Display for TypeRef as TypeRefDisplay {
+    ghost shown = { λ x. Some (typeText x) };
+
     fn fmt<W: fmt::Write>(&self, f: &mut fmt::Formatter<W>) -> fmt::Result {
         let module = self.module;
         let index = self.index;
