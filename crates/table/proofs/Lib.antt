@@ -1,0 +1,10 @@
+pub mod Found
+pub mod Halves
+pub mod Lookups
+pub mod Maps
+pub mod Nexts
+pub mod Numbers
+pub mod Placing
+pub mod Shifts
+pub mod SortedEdits
+pub mod Sorting

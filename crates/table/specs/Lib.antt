@@ -1,0 +1,4 @@
+pub mod Editing
+pub mod Order
+pub mod Rows
+pub mod Searching
