@@ -1,3 +1,4 @@
+pub mod KeyByKey
 pub mod Orders
 pub mod Padding
 pub mod TableLaws

@@ -1,4 +1,5 @@
 pub mod Keys
+pub mod Laws
 pub mod Model
 pub mod Pairs
 pub mod Refusals

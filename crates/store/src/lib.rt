@@ -8,6 +8,7 @@ mod rows;
 mod stores;
 mod table_store;
 mod tables;
+mod theorems;
 
 pub use keyed::KeyOrdered;
 pub use keys::Key;
@@ -20,3 +21,5 @@ pub use table_store::TableStore;
 pub use tables::TableListing;
 pub use tables::TableStoring;
 pub use tables::TableUncapped;
+pub use theorems::calls_alter_their_key_alone;
+pub use theorems::calls_count_one_pair;

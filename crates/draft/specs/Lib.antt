@@ -1,0 +1,5 @@
+pub mod Changes
+pub mod Laws
+pub mod Layer
+pub mod Merging
+pub mod Overlay
