@@ -5,9 +5,9 @@ use store::Pair;
 use store::Store;
 use store::TableStore;
 
-pub const SEVENTEEN_WORDS: [u64; 17] = [1, 2, 3, 4, 5, 6, 7, 8, 9, 10, 11, 12, 13, 14, 15, 16, 17];
+pub(crate) const SEVENTEEN_WORDS: [u64; 17] = [1, 2, 3, 4, 5, 6, 7, 8, 9, 10, 11, 12, 13, 14, 15, 16, 17];
 
-pub fn key(address: u64, module: u16, index: u8) -> Key {
+pub(crate) fn key(address: u64, module: u16, index: u8) -> Key {
     Key {
         address,
         module,
@@ -15,7 +15,7 @@ pub fn key(address: u64, module: u16, index: u8) -> Key {
     }
 }
 
-pub fn empty(rt: &LibcRuntime, rows: usize) -> Result<TableStore, Fail> {
+pub(crate) fn empty(rt: &LibcRuntime, rows: usize) -> Result<TableStore, Fail> {
     let Some(row) = Pair::new(key(1, 1, 1), &[1]) else {
         return Err(Fail::new("one word is no pair"));
     };
@@ -23,7 +23,7 @@ pub fn empty(rt: &LibcRuntime, rows: usize) -> Result<TableStore, Fail> {
 }
 
 #[derive(Clone, Copy)]
-pub enum Call {
+pub(crate) enum Call {
     // the first words of the seventeen, that many
     Put(usize),
     Remove,
@@ -32,7 +32,7 @@ pub enum Call {
 }
 
 #[derive(Clone, Copy, PartialEq, Eq, Debug)]
-pub enum Answer {
+pub(crate) enum Answer {
     Done,
     Refused(u8),
     Yes,
@@ -44,7 +44,7 @@ fn told(yes: bool) -> Answer {
     if yes { Answer::Yes } else { Answer::No }
 }
 
-pub fn made<S: Store>(store: &mut S, key: Key, call: Call) -> Answer {
+pub(crate) fn made<S: Store>(store: &mut S, key: Key, call: Call) -> Answer {
     match call {
         Call::Put(count) => match store.put(key, &SEVENTEEN_WORDS[0..count.min(17)]) {
             Ok(()) => Answer::Done,
@@ -63,7 +63,7 @@ pub fn made<S: Store>(store: &mut S, key: Key, call: Call) -> Answer {
 }
 
 // Makes each call at its address, and checks its answer and the size after it.
-pub fn follow<S: Store>(store: &mut S, calls: &[(u64, Call, Answer, u64)]) -> Result<(), Fail> {
+pub(crate) fn follow<S: Store>(store: &mut S, calls: &[(u64, Call, Answer, u64)]) -> Result<(), Fail> {
     for (address, call, expected, size) in calls.iter() {
         check_eq(made(store, key(*address, 0, 0), *call), *expected)?;
         check_eq(store.size(), *size)?;
@@ -72,7 +72,7 @@ pub fn follow<S: Store>(store: &mut S, calls: &[(u64, Call, Answer, u64)]) -> Re
 }
 
 // Puts one word at each address from 0 up.
-pub fn fill<S: Store>(store: &mut S, keys: u64) -> Result<(), Fail> {
+pub(crate) fn fill<S: Store>(store: &mut S, keys: u64) -> Result<(), Fail> {
     for address in 0..keys {
         check_eq(made(store, key(address, 0, 0), Call::Put(1)), Answer::Done)?;
     }
