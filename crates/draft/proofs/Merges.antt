@@ -23,7 +23,7 @@ use Rattle.store.specs.Keys.{keyBefore}
 use Rattle.store.specs.Model.{Model, Sound, cap, fits, own, isTouched, mayTouch, touch, putAnswer, putAfter, removeAnswer, removeAfter}
 use Rattle.store.specs.Pairs.{Entry, keyOf, entry, holds, ordered, putIn, takeOut}
 use Rattle.store.proofs.Orders.{key-order}
-use Rattle.draft.specs.Merging.{removeOne, putOne, removing, putting, takenOne, givenOne, takingAll, givingAll, merged, touchesAnew, touchedAnew, capHolds, mergeFits}
+use Rattle.draft.specs.Merging.{each, removeOne, putOne, removing, putting, takenOne, givenOne, takingAll, givingAll, merged, touchesAnew, touchedAnew, capHolds, mergeFits}
 use Rattle.draft.specs.Overlay.{apply, overlay, left, shadow}
 use Rattle.draft.proofs.Overlays.{ordered-overlay, entry-overlay, entry-apply-same, entry-apply-other}
 use Rattle.draft.proofs.Soundness.{few}
@@ -426,11 +426,8 @@ module _ (ts : List Entry) (i : ℕ) (e : Entry) (h : i < length ts) (at : e ≡
   next-change : drop i ts ≡ e ∷ drop (i + 1) ts
   next-change = drop-more ts i e h ∙ ap (λ (z : Entry). z ∷ drop (i + 1) ts) (sym at)
 
-  pub removing-next : (m : Model) → removing (drop i ts) m ≡ removing (drop (i + 1) ts) (removeOne (e .0) (e .1) m)
-  removing-next m = ap (λ es. removing es m) next-change
-
-  pub putting-next : (m : Model) → putting (drop i ts) m ≡ putting (drop (i + 1) ts) (putOne (e .0) (e .1) m)
-  putting-next m = ap (λ es. putting es m) next-change
+  pub each-next : (step : Key → List ℕ → Model → Model) (m : Model) → each step (drop i ts) m ≡ each step (drop (i + 1) ts) (step (e .0) (e .1) m)
+  each-next step m = ap (λ es. each step es m) next-change
 
   pub anew-next : (m : Model) → touchedAnew m (drop i ts) ≡ cond (touchesAnew m e) 1 0 + touchedAnew m (drop (i + 1) ts)
   anew-next m = ap (touchedAnew m) next-change

@@ -11,6 +11,8 @@ use Rattle.std.specs.declared.result.Result.the-variants.{Ok}
 use Rattle.store.specs.declared.keys.Key.{Key}
 use Rattle.store.specs.Model.{Model, cap, isTouched, putAnswer, putAfter, removeAnswer, removeAfter}
 use Rattle.store.specs.Pairs.{Entry, holds}
+use Rattle.draft.specs.declared.pass.Pass.{Pass}
+use Rattle.draft.specs.declared.pass.Pass.the-variants.{Removes, Puts}
 use Rattle.draft.specs.Overlay.{overlay}
 
 -- the calls of a merge as the store answers them: a change without words is a remove, and one with words a put
@@ -22,13 +24,21 @@ abbrev pub putOne : Key → List ℕ → Model → Model
 putOne k [] m = m
 putOne k (w ∷ ws) m = putAfter m k (w ∷ ws) (putAnswer m k (w ∷ ws))
 
+-- what a pass makes of one change
+abbrev pub carried : Pass → Key → List ℕ → Model → Model
+carried Removes = removeOne
+carried Puts = putOne
+
+-- a step for each change, in order
+abbrev pub each : (Key → List ℕ → Model → Model) → List Entry → Model → Model
+each step [] m = m
+each step (e ∷ es) m = each step es (step (e .0) (e .1) m)
+
 abbrev pub removing : List Entry → Model → Model
-removing [] m = m
-removing (e ∷ es) m = removing es (removeOne (e .0) (e .1) m)
+removing es m = each removeOne es m
 
 abbrev pub putting : List Entry → Model → Model
-putting [] m = m
-putting (e ∷ es) m = putting es (putOne (e .0) (e .1) m)
+putting es m = each putOne es m
 
 -- the same where the store refuses none
 abbrev pub takenOne : Key → List ℕ → Model → Model
@@ -40,12 +50,10 @@ givenOne k [] m = m
 givenOne k (w ∷ ws) m = putAfter m k (w ∷ ws) (Ok tt)
 
 abbrev pub takingAll : List Entry → Model → Model
-takingAll [] m = m
-takingAll (e ∷ es) m = takingAll es (takenOne (e .0) (e .1) m)
+takingAll es m = each takenOne es m
 
 abbrev pub givingAll : List Entry → Model → Model
-givingAll [] m = m
-givingAll (e ∷ es) m = givingAll es (givenOne (e .0) (e .1) m)
+givingAll es m = each givenOne es m
 
 -- the store below with the changes merged
 abbrev pub merged : List Entry → Model → Model

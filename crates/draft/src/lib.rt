@@ -6,6 +6,7 @@ mod keyed;
 mod layers;
 mod listing;
 mod merging;
+mod pass;
 mod rows;
 mod theorems;
 

@@ -6,11 +6,12 @@ ghost use Prim.Native.Nat.{_+_, _≤_};
 ghost use Rattle.store.specs.Model.{largestWord, cap};
 ghost use Rattle.draft.specs.Changes.{changed};
 ghost use Rattle.draft.specs.Layer.{entries};
-ghost use Rattle.draft.specs.Merging.{removeOne, putOne, removing, putting, merged, touchesAnew, touchedAnew, mergeFits};
+ghost use Rattle.draft.specs.Merging.{removeOne, putOne, carried, each, removing, putting, merged, touchesAnew, touchedAnew, mergeFits};
 ghost use Rattle.draft.specs.Overlay.{overlay};
 use super::change::Change;
 use super::drafts::Draft;
 use super::layers::DraftStoring;
+use super::pass::Pass;
 use store::Store;
 
 impl<S: Store> Draft<S> {
@@ -68,25 +69,25 @@ impl<S: Store> Draft<S> {
         }
     }
 
-    fn remove_all(&mut self)
+    fn carry(&mut self, pass: Pass, change: Change)
         ensures changes { λ _. ⌜ now (self .exit) .changes ≡ now (self .entry) .changes ⌝ }
-        ensures below { λ _. ⌜ S·Store .means (now (self .exit) .below) ≡ removing (entries (now (self .entry) .changes)) (S·Store .means (now (self .entry) .below)) ⌝ }
+        ensures below { λ _. ⌜ S·Store .means (now (self .exit) .below) ≡ carried pass (change .key) (changed change .1) (S·Store .means (now (self .entry) .below)) ⌝ }
         ensures under { λ _. ⌜ S·Store .under (now (self .exit) .below) ≡ S·Store .under (now (self .entry) .below) ⌝ }
     {
-        for i in 0..self.changes.used {
-            let change = self.changes.rows[i];
-            self.remove_one(change);
+        match pass {
+            Pass::Removes => self.remove_one(change),
+            Pass::Puts => self.put_one(change),
         }
     }
 
-    fn put_all(&mut self)
+    fn carry_all(&mut self, pass: Pass)
         ensures changes { λ _. ⌜ now (self .exit) .changes ≡ now (self .entry) .changes ⌝ }
-        ensures below { λ _. ⌜ S·Store .means (now (self .exit) .below) ≡ putting (entries (now (self .entry) .changes)) (S·Store .means (now (self .entry) .below)) ⌝ }
+        ensures below { λ _. ⌜ S·Store .means (now (self .exit) .below) ≡ each (carried pass) (entries (now (self .entry) .changes)) (S·Store .means (now (self .entry) .below)) ⌝ }
         ensures under { λ _. ⌜ S·Store .under (now (self .exit) .below) ≡ S·Store .under (now (self .entry) .below) ⌝ }
     {
         for i in 0..self.changes.used {
             let change = self.changes.rows[i];
-            self.put_one(change);
+            self.carry(pass, change);
         }
     }
 
@@ -102,8 +103,8 @@ impl<S: Store> Draft<S> {
         if !self.fits_below() {
             return false;
         }
-        self.remove_all();
-        self.put_all();
+        self.carry_all(Pass::Removes);
+        self.carry_all(Pass::Puts);
         self.forget();
         true
     }

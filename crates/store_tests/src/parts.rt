@@ -5,7 +5,25 @@ use store::Pair;
 use store::Store;
 use store::TableStore;
 
-pub(crate) const SEVENTEEN_WORDS: [u64; 17] = [1, 2, 3, 4, 5, 6, 7, 8, 9, 10, 11, 12, 13, 14, 15, 16, 17];
+pub(crate) const SEVENTEEN_WORDS: [u64; 17] = [
+    1,
+    2,
+    3,
+    4,
+    5,
+    6,
+    7,
+    8,
+    9,
+    10,
+    11,
+    12,
+    13,
+    14,
+    15,
+    16,
+    17,
+];
 
 pub(crate) fn key(address: u64, module: u16, index: u8) -> Key {
     Key {
@@ -63,7 +81,10 @@ pub(crate) fn made<S: Store>(store: &mut S, key: Key, call: Call) -> Answer {
 }
 
 // Makes each call at its address, and checks its answer and the size after it.
-pub(crate) fn follow<S: Store>(store: &mut S, calls: &[(u64, Call, Answer, u64)]) -> Result<(), Fail> {
+pub(crate) fn follow<S: Store>(
+    store: &mut S,
+    calls: &[(u64, Call, Answer, u64)],
+) -> Result<(), Fail> {
     for (address, call, expected, size) in calls.iter() {
         check_eq(made(store, key(*address, 0, 0), *call), *expected)?;
         check_eq(store.size(), *size)?;

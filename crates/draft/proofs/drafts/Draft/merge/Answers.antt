@@ -16,14 +16,14 @@ returns g c =
     let rises = g .S·Store·met .sound (d .below) .rises in
     let fit = c .if-not-fits-below .ensures tt in
     let calls =
-    ap means (c .forget .ensures .below) ∙ c .put-all .ensures .below
-    ∙ ap (λ z. putting (entries z) (means (c .remove-all .last .self .below))) (c .remove-all .ensures .changes)
-    ∙ ap (putting ts) (c .remove-all .ensures .below) in
+    ap means (c .forget .ensures .below) ∙ c .carry-all-2 .ensures .below
+    ∙ ap (λ z. putting (entries z) (means (c .carry-all .last .self .below))) (c .carry-all .ensures .changes)
+    ∙ ap (putting ts) (c .carry-all .ensures .below) in
     record {
       answer = fit;
       calls = calls;
       below = λ room yes. calls ∙ merge-done ts m (ordered-entries (d .changes)) rises (few-changed (take (d .changes .used) (d .changes .rows))) (sym (fit room));
       map = λ room yes. ap (λ (z : Model). z .pairs) (calls ∙ merge-done ts m (ordered-entries (d .changes)) rises (few-changed (take (d .changes .used) (d .changes .rows))) (sym (fit room))) ∙ merged-pairs ts m (ordered-entries (d .changes)) rises;
       changes = c .forget .ensures .empty;
-      under = ap (g .S·Store .under) (c .forget .ensures .below) ∙ c .put-all .ensures .under ∙ c .remove-all .ensures .under;
+      under = ap (g .S·Store .under) (c .forget .ensures .below) ∙ c .carry-all-2 .ensures .under ∙ c .carry-all .ensures .under;
     }

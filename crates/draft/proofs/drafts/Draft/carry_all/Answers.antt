@@ -5,11 +5,11 @@ use lib.ListN.{length, drop, getD}
 use Rattle.std.proofs.shelf.Lists.{drop-all, getD-default}
 use Rattle.draft.specs.Changes.{changed}
 use Rattle.draft.specs.Layer.{entries}
-use Rattle.draft.specs.Merging.{removing}
+use Rattle.draft.specs.Merging.{each, carried}
 use Rattle.draft.proofs.LayerLaws.{change-at}
-use Rattle.draft.proofs.Merges.{removing-next}
+use Rattle.draft.proofs.Merges.{each-next}
 use Rattle.draft.proofs.Soundness.{length-entries}
-use Rattle.draft.proofs.drafts.Draft.remove_all.Needs as need
+use Rattle.draft.proofs.drafts.Draft.carry_all.Needs as need
 
 pub loop-i-again : need.loop-i-again
 loop-i-again g c =
@@ -25,9 +25,10 @@ loop-i-again g c =
     let x = getD (b .changes .rows) i y in
     let same : x ≡ getD (d .changes .rows) i x = getD-default (b .changes .rows) i y x (omega (arith, b .changes .long, d .changes .within)) ∙ ap (λ z. getD (z .rows) i x) (inv .0) in
     let at = change-at (d .changes) i x l same in
-    let n = c .remove-one .ensures in (
+    let step = carried (c .args .pass) in
+    let n = c .carry .ensures in (
       n .changes ∙ inv .0,
-      ap (removing (drop (i + 1) ts)) (n .below) ∙ sym (removing-next ts i (changed x) there at (means (b .below))) ∙ inv .1,
+      ap (each step (drop (i + 1) ts)) (n .below) ∙ sym (each-next ts i (changed x) there at step (means (b .below))) ∙ inv .1,
       n .under ∙ inv .2,
     )
 
@@ -39,6 +40,6 @@ returns g c =
     let none = drop-all (c .loop-i .i) ts (omega (arith, length-entries (d .changes), c .loop-i-test .left)) in
     record {
       changes = inv .0;
-      below = ap (λ es. removing es (g .S·Store .means (c .loop-i .self .below))) (sym none) ∙ inv .1;
+      below = ap (λ es. each (carried (c .args .pass)) es (g .S·Store .means (c .loop-i .self .below))) (sym none) ∙ inv .1;
       under = inv .2;
     }
