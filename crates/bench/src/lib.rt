@@ -1,4 +1,6 @@
 // Reading a module, for the C program that times it.
+#![tactic(auto)]
+
 ghost use Rattle.std.specs.Prelude.{◌≡◌};
 ghost use Rattle.codec.specs.Reading.{read_module};
 ghost use Rattle.bench.specs.Counted.{count_of};

@@ -1,4 +1,6 @@
 // Times finding, putting and removing in a table store; without an argument it does nothing.
+#![tactic(auto)]
+
 use anyhow::anyhow;
 use std::env;
 use std::time::Instant;

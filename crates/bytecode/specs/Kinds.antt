@@ -1,5 +1,5 @@
 -- The kinds of records, and how long the body of each is.
-use Rattle.std.specs.Prelude.{ℕ, Bool, true, false, cond, ◌||◌, List, [], ◌∷◌, ◌==◌, nat_le}
+use Rattle.std.specs.Prelude.{ℕ, Bool, false, cond, ◌||◌, List, [], ◌∷◌, ◌==◌, nat_le}
 
 abbrev pub among : ℕ → List ℕ → Bool
 among k [] = false

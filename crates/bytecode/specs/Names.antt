@@ -1,5 +1,5 @@
 -- The name of each kind of record.
-use Rattle.std.specs.Prelude.{ℕ, Bool, true, false, cond, List, [], ◌∷◌, codes, ◌==◌}
+use Rattle.std.specs.Prelude.{ℕ, cond, List, [], ◌∷◌, codes, ◌==◌}
 
 abbrev pub Named : Type 0
 Named = ℕ × List ℕ

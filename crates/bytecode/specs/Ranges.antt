@@ -1,5 +1,5 @@
 -- The values that the body of each kind may have.
-use Rattle.std.specs.Prelude.{Bool, true, false, cond, ◌==◌, nat_le, nat_lt, slice_index}
+use Rattle.std.specs.Prelude.{Bool, true, cond, ◌==◌, nat_le, nat_lt, slice_index}
 use Rattle.operands.specs.Operands.{low_first}
 use Rattle.bytecode.specs.Records.{Shown}
 

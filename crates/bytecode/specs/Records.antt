@@ -1,5 +1,5 @@
 -- A record as its kind and its body, and as bytes.
-use Rattle.std.specs.Prelude.{ℕ, Bool, true, false, cond, List, [], ◌∷◌, length, Ok, Err, Result, ◌==◌}
+use Rattle.std.specs.Prelude.{ℕ, cond, List, [], ◌∷◌, length, Ok, Err, Result, ◌==◌}
 use Rattle.bytecode.specs.declared.records.Record.{Record}
 use Rattle.bytecode.specs.declared.records.Record.TheVariants as case
 use Rattle.bytecode.specs.declared.refusals.Reason.{Reason}

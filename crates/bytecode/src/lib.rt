@@ -1,4 +1,6 @@
 // The kinds of records, a record as an enum over its body, and what the codec refuses.
+#![tactic(auto)]
+
 mod kinds;
 mod records;
 mod refusals;

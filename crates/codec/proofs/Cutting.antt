@@ -1,10 +1,9 @@
 -- The writing of records is cut into these records again.
-use Rattle.std.proofs.Common.{◌≡◌, ℕ, zero, suc, ◌+◌, ◌≤◌, List, [], ◌∷◌, ◌++◌, length, Ok, sym, refl, ap, ◌∙◌, arith, length-append}
-use Rattle.codec.specs.FirstRecord.{read_one}
-use Rattle.bytecode.specs.Records.{Shown, bytes_of, formed}
+use Rattle.std.proofs.Common.{◌≡◌, ℕ, zero, suc, ◌≤◌, List, [], ◌∷◌, length, Ok, refl, arith, length-append}
+use Rattle.bytecode.specs.Records.{Shown, formed}
 use Rattle.codec.proofs.FirstRecord.{reads_front}
 use Rattle.codec.specs.Readable.{written}
-use Rattle.codec.specs.Reading.{Cut, cutting, cut}
+use Rattle.codec.specs.Reading.{cutting, cut}
 use Rattle.codec.specs.RoundTrip.{only}
 
 abbrev pub AllFormed : List Shown → Type 0

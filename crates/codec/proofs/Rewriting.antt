@@ -1,8 +1,7 @@
 -- What one turn of writing a module again keeps.
-use Rattle.std.proofs.Common.{◌≡◌, ℕ, zero, suc, ◌+◌, ◌-◌, ◌<◌, ◌≤◌, Bool, true, false, cond, leb, List, [], ◌∷◌, ◌++◌, length, take, drop, Ok, Err, Result, sym, refl, ap, ◌∙◌, subst, append_assoc, append-nil, arith, length-append, length-drop, take-append-drop}
-use Rattle.std.proofs.lemmas.List.{take_at, drop_at, drop-drop, take_all, drop_all, length-take-le}
+use Rattle.std.proofs.Common.{◌≡◌, ℕ, ◌+◌, ◌≤◌, true, List, [], ◌∷◌, ◌++◌, length, take, drop, Ok, Err, Result, sym, refl, ap, ◌∙◌, subst, append_assoc, arith, length-append, length-drop, take-append-drop}
+use Rattle.std.proofs.lemmas.List.{take_at, drop_at, drop-drop, take_all, length-take-le}
 use Rattle.std.proofs.lemmas.Bool.{le-leb}
-use Rattle.std.proofs.lemmas.Bool.Decides.{nat_tests}
 use Rattle.bytecode.specs.declared.refusals.Fault.{Fault}
 use Rattle.bytecode.specs.declared.refusals.Reason.{Reason}
 use Rattle.bytecode.specs.Ranges.{in_range}
@@ -17,7 +16,7 @@ use Rattle.grammar.proofs.Steps.{Accepts, over, next, step_from}
 use Rattle.codec.specs.Readable.{written, IsModule}
 use Rattle.codec.specs.Reading.{read_module}
 use Rattle.codec.specs.RoundTrip.{rewriting}
-use Rattle.codec.proofs.Turns.{Met, met, left, record_inside}
+use Rattle.codec.proofs.Turns.{Met, left, record_inside}
 
 -- records that the writer takes
 abbrev Writable : List Shown → Type 0

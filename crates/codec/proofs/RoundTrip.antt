@@ -1,15 +1,13 @@
 -- Reading and writing are inverse.
-use Rattle.std.proofs.Common.{◌≡◌, ℕ, zero, suc, ◌+◌, ◌<◌, ◌≤◌, Bool, true, false, List, [], ◌∷◌, ◌++◌, length, take, drop, is_ok, Ok, Err, Result, sym, refl, ap, ◌∙◌, append_assoc, append-nil, arith, length-append, MatchResult}
-use Rattle.std.proofs.lemmas.List.{take_at, length-take-le, take_all}
+use Rattle.std.proofs.Common.{◌≡◌, ℕ, ◌+◌, ◌≤◌, true, List, ◌++◌, length, take, drop, is_ok, Ok, Err, Result, sym, refl, ap, ◌∙◌, append_assoc, append-nil, arith, length-append}
+use Rattle.std.proofs.lemmas.List.{take_at, length-take-le}
 use Rattle.std.proofs.lemmas.Bool.Decides.{nat_tests}
 use Rattle.bytecode.specs.declared.refusals.Fault.{Fault}
 use Rattle.bytecode.specs.Records.{Shown, bytes_of, formed}
 use Rattle.codec.specs.Writing.{writing, filled}
-use Rattle.grammar.specs.Grammar.{ModuleRow}
-use Rattle.grammar.proofs.Built.{module_taken}
 use Rattle.codec.specs.Readable.{written, IsModule}
-use Rattle.codec.specs.Reading.{Cut, cut, read_module}
-use Rattle.codec.specs.RoundTrip.{WritesAll, nothing, one_more, only, WritingRestoresBytes, ReadingRestoresRecords, ReadingRestoresModules}
+use Rattle.codec.specs.Reading.{cut, read_module}
+use Rattle.codec.specs.RoundTrip.{WritesAll, nothing, one_more, WritingRestoresBytes, ReadingRestoresRecords, ReadingRestoresModules}
 use Rattle.codec.proofs.Cutting.{AllFormed, cut-written}
 use Rattle.codec.proofs.Verdict.{Verdict, reader_right, reader_complete, module_cut}
 

@@ -1,5 +1,5 @@
 -- What one turn of reading a module keeps.
-use Rattle.std.proofs.Common.{◌≡◌, ℕ, zero, suc, ◌+◌, ◌-◌, ◌<◌, ◌≤◌, Bool, true, false, cond, leb, List, [], ◌∷◌, ◌++◌, length, drop, Ok, Err, Result, sym, refl, ap, ◌∙◌, arith, length-drop}
+use Rattle.std.proofs.Common.{◌≡◌, ℕ, zero, suc, ◌+◌, ◌<◌, ◌≤◌, true, false, List, [], ◌∷◌, length, drop, Ok, Err, Result, sym, refl, ap, ◌∙◌, arith, length-drop}
 use Rattle.std.proofs.lemmas.List.{drop_at, drop-drop, drop_all}
 use Rattle.std.proofs.lemmas.Bool.{le-leb}
 use Rattle.std.proofs.lemmas.Bool.Decides.{nat_tests}
@@ -13,7 +13,7 @@ use Rattle.codec.specs.Walking.{At, placed}
 use Rattle.codec.proofs.FirstRecord.{read_length, read_front}
 use Rattle.grammar.specs.declared.order.Progress.{Progress}
 use Rattle.grammar.specs.Order.{advance, is_end, start}
-use Rattle.codec.specs.Reading.{Cut, cutting, cut, no_bytes, judging, judged, read_module}
+use Rattle.codec.specs.Reading.{cutting, cut, no_bytes, judging, judged, read_module}
 
 -- what a walk over these bytes met at a place
 pub record Met (bs : List ℕ) (place at : ℕ) (x : Shown) : Type 0 where

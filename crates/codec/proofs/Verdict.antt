@@ -1,23 +1,21 @@
 -- The reader's definition says of bytes what they are.
-use Rattle.std.proofs.Common.{◌≡◌, ℕ, zero, suc, ◌+◌, ◌<◌, ◌≤◌, Bool, true, false, cond, leb, List, [], ◌∷◌, ◌++◌, length, Ok, Err, Result, sym, refl, ap, ◌∙◌, subst, append_assoc, append-nil, arith, length-append, MatchResult}
+use Rattle.std.proofs.Common.{◌≡◌, ℕ, zero, suc, ◌+◌, ◌<◌, ◌≤◌, Bool, true, false, cond, leb, List, [], ◌∷◌, ◌++◌, length, Ok, Err, Result, sym, refl, ap, ◌∙◌, append_assoc, append-nil, arith, length-append, MatchResult}
 use Rattle.std.proofs.lemmas.List.{flat_map_more}
 use Rattle.std.proofs.lemmas.Bool.{le-leb, leb-true, leb-false}
-use Rattle.std.proofs.lemmas.Bool.Decides.{nat_tests}
 use Rattle.bytecode.specs.declared.refusals.Fault.{Fault}
 use Rattle.bytecode.specs.declared.refusals.Reason.{Reason}
-use Rattle.bytecode.specs.declared.refusals.Reason.TheVariants.{MissingEnd, UnknownKind, CutRecord, WrongBodyLength, BytesAfterEnd, OutOfOrder, TooMany, TooLong, OutOfRange, NoRoom}
+use Rattle.bytecode.specs.declared.refusals.Reason.TheVariants.{MissingEnd, BytesAfterEnd, TooLong}
 use Rattle.codec.specs.FirstRecord.{Read, read_one}
-use Rattle.bytecode.specs.Records.{Shown, bytes_of, formed}
+use Rattle.bytecode.specs.Records.{Shown, bytes_of}
 use Rattle.bytecode.specs.Refusals.{fault}
-use Rattle.codec.proofs.FirstRecord.{read_length, read_front, read_formed, reads_front, unread_number}
+use Rattle.codec.proofs.FirstRecord.{read_length, read_front, read_formed, unread_number}
 use Rattle.grammar.specs.declared.order.Progress.{Progress}
-use Rattle.grammar.specs.Grammar.{ModuleRow, Begins}
-use Rattle.grammar.specs.Order.{part_of, is_end, may_follow, advance, start}
+use Rattle.grammar.specs.Order.{is_end, advance, start}
 use Rattle.grammar.proofs.Begun.{Takes, still, takes_one_more, taken_begins, refused_begins_none, taken_whole, taken_part}
 use Rattle.grammar.proofs.Built.{module_taken}
 use Rattle.grammar.proofs.Steps.{Accepts, over, next, step_open, step_number}
 use Rattle.codec.specs.Readable.{written, IsModule, Reached, Refused, too_long, no_record, surplus, no_way_on}
-use Rattle.codec.specs.Reading.{Cut, cutting, cut, no_bytes, judging, judged, read_module}
+use Rattle.codec.specs.Reading.{cutting, cut, no_bytes, judging, judged, read_module}
 use Rattle.codec.specs.RoundTrip.{only}
 use Rattle.codec.proofs.Cutting.{AllFormed, cut-written}
 use Rattle.codec.proofs.Turns.{from, some_bytes}

@@ -1,5 +1,5 @@
 -- How the first record of a row of bytes is read.
-use Rattle.std.specs.Prelude.{ℕ, Bool, true, false, cond, List, [], ◌∷◌, length, take, drop, Ok, Err, Result, nat_le}
+use Rattle.std.specs.Prelude.{ℕ, cond, List, [], ◌∷◌, length, take, drop, Ok, Err, Result, nat_le}
 use Rattle.std.specs.Borrow.{Bor}
 use Rattle.bytecode.specs.declared.records.Record.{Record}
 use Rattle.bytecode.specs.declared.refusals.Reason.{Reason}

@@ -1,5 +1,5 @@
 -- A record with its place in the module.
-use Rattle.std.specs.Prelude.{ℕ, ◌+◌, List, length, Ok, Err, Result}
+use Rattle.std.specs.Prelude.{ℕ, ◌+◌, length, Ok, Err, Result}
 use Rattle.bytecode.specs.declared.refusals.Fault.{Fault}
 use Rattle.bytecode.specs.declared.refusals.Reason.{Reason}
 use Rattle.codec.specs.declared.walk.Placed.{Placed}

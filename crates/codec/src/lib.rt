@@ -1,4 +1,6 @@
 // Module bytes and records: one record read, walked to and written, and a whole module.
+#![tactic(auto)]
+
 mod modules;
 mod reading;
 mod theorems;

@@ -1,6 +1,5 @@
 -- The laws that callers of drafts rely on.
-use Rattle.std.proofs.Common.{◌≡◌, ℕ, true, false, List, map, is_some, Some, sym, ap, ◌∙◌}
-use Rattle.store.specs.declared.keys.Key.{Key}
+use Rattle.std.proofs.Common.{◌≡◌, true, false, map, is_some, Some, sym, ap, ◌∙◌}
 use Rattle.store.specs.Keys.{key_before}
 use Rattle.store.specs.Model.{own, may_touch}
 use Rattle.store.specs.Pairs.{key_of, entry, holds}

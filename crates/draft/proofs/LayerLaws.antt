@@ -1,21 +1,20 @@
 -- A draft's changes, and the layer that they make.
-use Rattle.std.proofs.Common.{◌≡◌, ℕ, ◌+◌, ◌-◌, ◌<◌, ◌≤◌, Bool, true, false, cond, ◌&&◌, ◌||◌, ltb, leb, List, [], ◌∷◌, ◌++◌, map, length, get_or, take, drop, replicate, is_some, Some, None, Ok, Err, Option, Result, sym, refl, ap, ◌∙◌, subst, ⊎_elim, arith, length-drop, take-append-drop, length-take}
+use Rattle.std.proofs.Common.{◌≡◌, ℕ, ◌+◌, ◌-◌, ◌<◌, ◌≤◌, Bool, true, false, cond, ◌||◌, ltb, List, [], ◌∷◌, ◌++◌, map, length, get_or, take, drop, replicate, is_some, Some, None, Ok, Err, Option, sym, refl, ap, ◌∙◌, subst, ⊎_elim, arith, length-drop, take-append-drop, length-take}
 use Rattle.std.specs.Option.{option_map}
 use Rattle.std.proofs.lemmas.List.{length-map, length-take-le, get_or-take, get_or-map, take_at}
-use Rattle.std.proofs.lemmas.Bool.{lt-ltb, ltb-true, le-ltb, cases_Bool, and_from, both_ways, le-leb}
+use Rattle.std.proofs.lemmas.Bool.{lt-ltb, ltb-true, cases_Bool, and_from, both_ways, le-leb}
 use Rattle.table.proofs.Room.{room_was, no_room_was}
 use Rattle.table.specs.declared.edits.Full.{Full}
 use Rattle.table.specs.Editing.{fits as room_for, put_answer as rows_answer, put_after as rows_after}
 use Rattle.table.specs.Rows as rows
-use Rattle.table.proofs.Maps.{map-look, map-put, map-sorted}
-use Rattle.table.proofs.Placing.{length-put, length_without}
+use Rattle.table.proofs.Maps.{map-look, map-put}
+use Rattle.table.proofs.Placing.{length_without}
 use Rattle.table.proofs.Sorting.{sorted-put}
 use Rattle.store.specs.declared.keys.Key.{Key}
-use Rattle.store.specs.declared.refusals.Refusal.{Refusal}
-use Rattle.store.specs.declared.refusals.Refusal.TheVariants.{TooManyTouched, AtLimit, WrongLength}
+use Rattle.store.specs.declared.refusals.Refusal.TheVariants.{TooManyTouched}
 use Rattle.store.specs.Keys.{key_before}
 use Rattle.store.specs.Model.{Model, Sound, cap, largest_word, fits, own, may_touch, put_answer, put_after, remove_answer, remove_after}
-use Rattle.store.specs.Pairs.{Entry, key_of, entry, holds, ordered, words_of, shown, put_in, take_out}
+use Rattle.store.specs.Pairs.{Entry, key_of, entry, holds, ordered, words_of, shown, put_in}
 use Rattle.store.specs.Orders.{key_order}
 use Rattle.store.specs.TableLaws.{is_some_mapped}
 use Rattle.draft.specs.declared.change.Change.{Change}

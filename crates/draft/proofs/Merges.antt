@@ -1,7 +1,7 @@
 -- A merge that fits is refused nowhere, and leaves below exactly the map that the draft meant.
-use Rattle.std.proofs.Common.{◌≡◌, ℕ, ◌+◌, ◌-◌, ◌<◌, ◌≤◌, min, Bool, true, false, cond, not, ◌&&◌, ◌||◌, eqb, ltb, leb, List, [], ◌∷◌, length, get_or, drop, is_some, Some, None, Ok, Err, Option, sym, refl, ap, ◌∙◌, subst, inl, inr, ⊎_elim, arith}
+use Rattle.std.proofs.Common.{◌≡◌, ℕ, ◌+◌, ◌<◌, ◌≤◌, Bool, true, false, cond, not, ◌&&◌, ◌||◌, eqb, ltb, leb, List, [], ◌∷◌, length, get_or, drop, is_some, Some, None, Ok, Option, sym, refl, ap, ◌∙◌, subst, inl, inr, ⊎_elim, arith}
 use Rattle.std.proofs.lemmas.List.{drop_more}
-use Rattle.std.proofs.lemmas.Bool.{cases_Bool, both_ways, and_parts, and_from, leb-true, lt-ltb, le-leb, lt-leb, cases_lt}
+use Rattle.std.proofs.lemmas.Bool.{cases_Bool, both_ways, and_parts, and_from, leb-true, lt-ltb}
 use Rattle.std.proofs.lemmas.Bool.Decides.{nat_tests}
 use Rattle.table.specs.Rows as rows
 use Rattle.table.proofs.Lookups.{Apart, three, look-above, look-put-same, look_put_other, same_rows}
@@ -9,11 +9,11 @@ use Rattle.table.proofs.Placing.{length-put, without-none}
 use Rattle.table.proofs.Sorting.{above_chain, sorted-put, sorted-without}
 use Rattle.store.specs.declared.keys.Key.{Key}
 use Rattle.store.specs.Keys.{key_before}
-use Rattle.store.specs.Model.{Model, Sound, cap, fits, own, is_touched, may_touch, touch, put_answer, put_after, remove_answer, remove_after}
+use Rattle.store.specs.Model.{Model, fits, own, is_touched, may_touch, touch, put_answer, put_after, remove_answer, remove_after}
 use Rattle.store.specs.Pairs.{Entry, key_of, entry, holds, ordered, put_in, take_out}
 use Rattle.store.specs.Orders.{key_order}
 use Rattle.draft.specs.Merging.{each, remove_one, put_one, removing, putting, taken_one, given_one, taking_all, giving_all, merged, touches_anew, touched_anew, cap_holds, merge_fits}
-use Rattle.draft.specs.Overlay.{apply, overlay, left, shadow}
+use Rattle.draft.specs.Overlay.{overlay, left, shadow}
 use Rattle.draft.specs.Overlays.{ordered-overlay, entry-overlay, entry-apply-same, entry_apply_other}
 use Rattle.draft.specs.Soundness.{few}
 

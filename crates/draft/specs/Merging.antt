@@ -1,5 +1,5 @@
 -- What merging does to the store below: removes first, then puts.
-use Rattle.std.specs.Prelude.{◌≡◌, ℕ, ◌+◌, Bool, true, cond, not, ◌&&◌, ◌||◌, List, [], ◌∷◌, length, Some, None, Ok, Option, nat_le, nat_lt}
+use Rattle.std.specs.Prelude.{ℕ, ◌+◌, Bool, true, cond, not, ◌&&◌, ◌||◌, List, [], ◌∷◌, length, Some, None, Ok, Option, nat_le, nat_lt}
 use Rattle.store.specs.declared.keys.Key.{Key}
 use Rattle.store.specs.Model.{Model, cap, is_touched, put_answer, put_after, remove_answer, remove_after}
 use Rattle.store.specs.Pairs.{Entry, holds}

@@ -1,11 +1,11 @@
 -- What a map holds with changes over it.
-use Rattle.std.specs.Prelude.{◌≡◌, ℕ, ◌+◌, ◌<◌, ◌≤◌, Bool, true, false, cond, ltb, List, [], ◌∷◌, length, drop, is_some, Some, None, Option, nat_lt, slice_index_or, refl}
+use Rattle.std.specs.Prelude.{◌≡◌, ℕ, ◌+◌, ◌<◌, ◌≤◌, true, false, cond, ltb, List, [], ◌∷◌, length, drop, is_some, None, nat_lt, slice_index_or, refl}
 use Rattle.std.proofs.Common.{sym, ap, ◌∙◌, subst, inl, inr, ⊎_elim, arith}
 use Rattle.std.proofs.lemmas.List.{drop_more}
 use Rattle.std.proofs.lemmas.Bool.{and_parts, cases_Bool, both_ways, lt-ltb}
 use Rattle.store.specs.declared.keys.Key.{Key}
 use Rattle.store.specs.Keys.{key_before}
-use Rattle.store.specs.Pairs.{Entry, key_of, entry, holds, ordered, put_in, take_out}
+use Rattle.store.specs.Pairs.{Entry, key_of, entry, holds, ordered, put_in}
 use Rattle.store.specs.Orders.{key_order}
 use Rattle.table.specs.Rows as rows
 use Rattle.table.proofs.Sorting.{sorted-put, sorted-without, above_chain, sorted-drop}

@@ -1,6 +1,6 @@
 -- A layer over a sound store is sound.
-use Rattle.std.specs.Prelude.{◌≡◌, ℕ, ◌+◌, ◌-◌, ◌<◌, ◌≤◌, Bool, true, false, cond, ◌&&◌, List, [], ◌∷◌, map, length, take, is_some, nat_le, refl}
-use Rattle.std.proofs.Common.{sym, ap, ◌∙◌, ⊎_elim, arith, length-take}
+use Rattle.std.specs.Prelude.{◌≡◌, ℕ, Bool, true, false, ◌&&◌, List, [], ◌∷◌, map, length, take, is_some, nat_le, refl}
+use Rattle.std.proofs.Common.{ap, ◌∙◌, ⊎_elim, arith, length-take}
 use Rattle.std.proofs.lemmas.List.{length-map, length-take-le}
 use Rattle.std.proofs.lemmas.Bool.{and_from, and_parts, cases_Bool, both_ways, le-leb, lt-ltb}
 use Rattle.table.proofs.Maps.{map-sorted}
@@ -10,7 +10,7 @@ use Rattle.store.specs.Model.{Model, Sound, fits, filled, own}
 use Rattle.store.specs.Pairs.{Entry, key_of, ordered, put_in, take_out}
 use Rattle.draft.specs.declared.change.Change.{Change}
 use Rattle.draft.specs.declared.changes.Changes.{Changes}
-use Rattle.draft.specs.Changes.{change_key, changed, rising}
+use Rattle.draft.specs.Changes.{changed}
 use Rattle.draft.specs.Layer.{entries, layer}
 use Rattle.draft.specs.Overlay.{apply, overlay}
 use Rattle.draft.specs.Overlays.{ordered-overlay, length-overlay}

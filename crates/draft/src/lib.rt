@@ -1,4 +1,6 @@
 // A draft: changes over any store, and itself a store.
+#![tactic(auto)]
+
 mod change;
 mod changes;
 mod drafts;

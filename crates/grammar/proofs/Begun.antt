@@ -1,14 +1,13 @@
 -- Records that are taken one by one begin a module, and one that is refused there goes on to none.
-use Rattle.std.proofs.Common.{◌≡◌, ℕ, zero, suc, ◌+◌, ◌<◌, ◌≤◌, Bool, true, false, cond, List, [], ◌∷◌, ◌++◌, Ok, Err, Result, sym, refl, ap, ◌∙◌, subst, append_assoc, append-nil, arith}
+use Rattle.std.proofs.Common.{◌≡◌, ℕ, ◌<◌, true, false, List, [], ◌∷◌, ◌++◌, Ok, Err, sym, refl, subst, append_assoc, append-nil, arith}
 use Rattle.bytecode.specs.declared.refusals.Reason.{Reason}
 use Rattle.bytecode.specs.Kinds.{body_length}
-use Rattle.bytecode.specs.Ranges.{in_range}
 use Rattle.bytecode.specs.Records.{Shown, formed}
 use Rattle.grammar.specs.declared.order.Part.{Part}
 use Rattle.grammar.specs.declared.order.Part.TheVariants.{Start, Module, Struct, Field, Function, Param, Result as Answer, Local, Code, End}
 use Rattle.grammar.specs.declared.order.Progress.{Progress}
 use Rattle.grammar.specs.Grammar.{Is, ModuleRow, Begins}
-use Rattle.grammar.specs.Order.{part_of, same, is_end, may_follow, most, had, after, advance, start}
+use Rattle.grammar.specs.Order.{is_end, may_follow, most, had, after, advance, start}
 use Rattle.grammar.proofs.Built.{module_taken}
 use Rattle.grammar.proofs.Parsed.{module_parsed}
 use Rattle.grammar.proofs.Steps.{Accepts, over, next, step_to}

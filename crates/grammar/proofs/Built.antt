@@ -1,12 +1,12 @@
 -- A row that the grammar allows is taken to its end.
-use Rattle.std.proofs.Common.{◌≡◌, ℕ, zero, suc, ◌+◌, ◌<◌, ◌≤◌, Bool, true, false, cond, eqb, List, [], ◌∷◌, ◌++◌, length, Ok, sym, refl, ap, ◌∙◌, subst, append_assoc, arith}
+use Rattle.std.proofs.Common.{◌≡◌, ℕ, zero, suc, ◌+◌, ◌<◌, ◌≤◌, true, false, List, [], ◌∷◌, ◌++◌, length, sym, refl, ap, ◌∙◌, subst, append_assoc, arith}
 use Rattle.std.proofs.lemmas.Bool.Decides.{nat_tests}
-use Rattle.bytecode.specs.Records.{Shown, formed}
+use Rattle.bytecode.specs.Records.{Shown}
 use Rattle.grammar.specs.declared.order.Part.{Part}
 use Rattle.grammar.specs.declared.order.Part.TheVariants.{Start, Module, Struct, Field, Function, Param, Result as Answer, Local, Code, End}
 use Rattle.grammar.specs.declared.order.Progress.{Progress}
-use Rattle.grammar.specs.Grammar.{Is, Each, none, more, Row, Rows, no_more, and, StructRow, FunctionRow, ModuleRow}
-use Rattle.grammar.specs.Order.{rank, same, is_end, may_follow, most, had, after, start}
+use Rattle.grammar.specs.Grammar.{Is, Each, none, more, Rows, no_more, and, StructRow, FunctionRow, ModuleRow}
+use Rattle.grammar.specs.Order.{same, may_follow, most, had, after, start}
 use Rattle.grammar.proofs.Steps.{Accepts, over, next, step_to}
 
 -- the progress after n records of one part

@@ -1,13 +1,12 @@
 -- A row that is taken to its end is one that the grammar allows.
-use Rattle.std.proofs.Common.{◌≡◌, ℕ, zero, suc, ◌+◌, ◌-◌, ◌<◌, ◌≤◌, Bool, true, false, cond, ◌&&◌, ◌||◌, eqb, leb, List, [], ◌∷◌, ◌++◌, length, Ok, sym, refl, ap, ◌∙◌, subst, append_assoc, arith, rules}
+use Rattle.std.proofs.Common.{◌≡◌, ℕ, zero, suc, ◌+◌, ◌-◌, ◌<◌, ◌≤◌, Bool, true, false, cond, leb, List, [], ◌∷◌, ◌++◌, length, Ok, sym, refl, ap, ◌∙◌, subst, append_assoc, arith, rules}
 use Rattle.std.proofs.lemmas.Bool.Decides.{nat_tests}
-use Rattle.std.proofs.lemmas.List.{nil_from_length}
 use Rattle.bytecode.specs.Records.{Shown, formed}
 use Rattle.grammar.specs.declared.order.Part.{Part}
 use Rattle.grammar.specs.declared.order.Part.TheVariants.{Start, Module, Struct, Field, Function, Param, Result as Answer, Local, Code, End}
 use Rattle.grammar.specs.declared.order.Progress.{Progress}
-use Rattle.grammar.specs.Grammar.{Is, Each, none, more, Row, Rows, no_more, and, StructRow, FunctionRow, ModuleRow}
-use Rattle.grammar.specs.Order.{part_of, rank, same, is_end, may_follow, most, had, after, advance, start}
+use Rattle.grammar.specs.Grammar.{Is, Each, none, more, Rows, no_more, and, StructRow, FunctionRow, ModuleRow}
+use Rattle.grammar.specs.Order.{part_of, rank, is_end, may_follow, most, had, after, start}
 use Rattle.grammar.proofs.Steps.{never, Accepts, over, next, Step, step_from}
 
 -- whether the last part is one of those from one rank up to another

@@ -1,5 +1,5 @@
 -- A row of records taken one by one, and what one step asks and keeps.
-use Rattle.std.proofs.Common.{◌≡◌, ℕ, zero, suc, ◌+◌, ◌<◌, ◌≤◌, Bool, true, false, cond, ltb, List, [], ◌∷◌, ◌++◌, Ok, Err, Result, sym, refl, ap, ◌∙◌, subst, arith}
+use Rattle.std.proofs.Common.{◌≡◌, ℕ, ◌<◌, ◌≤◌, Bool, true, false, cond, ltb, List, [], ◌∷◌, Ok, Err, Result, refl, subst, arith}
 use Rattle.std.proofs.lemmas.Bool.{lt-ltb, ltb-true}
 use Rattle.std.proofs.lemmas.Bool.Decides.{nat_tests}
 use Rattle.bytecode.specs.declared.refusals.Reason.{Reason}
@@ -11,7 +11,7 @@ use Rattle.grammar.specs.declared.order.Part.{Part}
 use Rattle.grammar.specs.declared.order.Part.TheVariants.{Start, Module, Struct, Field, Function, Param, Result as Answer, Local, Code, End}
 use Rattle.grammar.specs.declared.order.Progress.{Progress}
 use Rattle.grammar.specs.Grammar.{Is}
-use Rattle.grammar.specs.Order.{part_of, rank, same, is_end, may_follow, most, had, after, advance}
+use Rattle.grammar.specs.Order.{part_of, is_end, may_follow, most, had, after, advance}
 
 pub never : false ≡ true → ⊥
 never e = let z : ◌≡◌ {A = ℕ} 0 1 = cc in omega arith

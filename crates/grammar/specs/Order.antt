@@ -1,5 +1,5 @@
 -- Which record may follow which, and how many of each there may be.
-use Rattle.std.specs.Prelude.{ℕ, ◌+◌, Bool, true, false, cond, ◌||◌, List, [], ◌∷◌, Result, ◌==◌, nat_lt}
+use Rattle.std.specs.Prelude.{ℕ, ◌+◌, Bool, false, cond, ◌||◌, List, [], ◌∷◌, Result, ◌==◌, nat_lt}
 use Rattle.std.specs.declared.result.Result.TheVariants as result
 use Rattle.bytecode.specs.declared.refusals.Reason.{Reason}
 use Rattle.bytecode.specs.declared.refusals.Reason.TheVariants.{OutOfOrder, TooMany, OutOfRange}

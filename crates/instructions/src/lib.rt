@@ -1,4 +1,6 @@
 // Instructions, decoded from their records.
+#![tactic(auto)]
+
 mod instruction;
 
 pub use instruction::Instruction;

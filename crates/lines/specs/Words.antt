@@ -1,5 +1,5 @@
 -- The words of a text, which blanks set apart.
-use Rattle.std.specs.Prelude.{ℕ, suc, Bool, true, false, cond, ◌||◌, List, [], ◌∷◌, take, drop, ◌==◌}
+use Rattle.std.specs.Prelude.{ℕ, suc, Bool, cond, ◌||◌, List, [], ◌∷◌, take, drop, ◌==◌}
 
 -- a space, a tab or a carriage return
 abbrev pub blank : ℕ → Bool

@@ -1,4 +1,6 @@
 // The lines of a script: how each is read as a command, or what is wrong with it.
+#![tactic(auto)]
+
 mod bad_lines;
 mod commands;
 mod hex;

@@ -1,5 +1,5 @@
 -- The lines of a listing, one for each record of a module.
-use Rattle.std.specs.Prelude.{ℕ, ◌+◌, Bool, true, false, cond, List, [], ◌∷◌, ◌++◌, length, codes, decimal, ◌==◌, slice_index}
+use Rattle.std.specs.Prelude.{ℕ, ◌+◌, cond, List, [], ◌∷◌, ◌++◌, length, codes, decimal, ◌==◌, slice_index}
 use Rattle.bytecode.specs.Kinds.{length_rule}
 use Rattle.bytecode.specs.Names.{name_of}
 use Rattle.operands.specs.Operands.{low_first, type_ref, function_ref}

@@ -1,4 +1,6 @@
 // A module decoded from its bytes.
+#![tactic(auto)]
+
 mod parts;
 mod rows;
 mod theorems;

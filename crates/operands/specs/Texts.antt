@@ -1,5 +1,5 @@
 -- How a type is written.
-use Rattle.std.specs.Prelude.{ℕ, Bool, true, false, cond, ◌&&◌, List, [], ◌∷◌, ◌++◌, codes, decimal, ◌==◌}
+use Rattle.std.specs.Prelude.{ℕ, Bool, cond, ◌&&◌, List, ◌++◌, codes, decimal, ◌==◌}
 use Rattle.operands.specs.declared.numbers.TypeRef.{TypeRef}
 
 abbrev pub is_type : TypeRef → ℕ → ℕ → Bool

@@ -1,3 +1,5 @@
+#![tactic(auto)]
+
 // What lines of a script are answered, line by line.
 #[cfg(test)]
 mod tests {

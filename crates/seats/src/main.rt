@@ -1,4 +1,6 @@
 // Runs a script of commands and prints what each is answered.
+#![tactic(auto)]
+
 use anyhow::anyhow;
 use script::answer_line;
 use std::io::{BufRead, BufReader, Read};

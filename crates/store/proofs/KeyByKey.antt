@@ -1,5 +1,5 @@
 -- Put and remove alter their key alone, and by one pair at most.
-use Rattle.std.proofs.Common.{◌≡◌, ℕ, Bool, true, false, ◌⊎◌, List, is_some, Some, None, Ok, Err, Option, refl, ap, inl, inr, ⊎_elim}
+use Rattle.std.proofs.Common.{◌≡◌, true, false, ◌⊎◌, List, is_some, Some, None, Ok, Err, Option, refl, ap, inl, inr, ⊎_elim}
 use Rattle.std.proofs.lemmas.Bool.{cases_Bool}
 use Rattle.table.proofs.Lookups.{look-put-same, look_put_other, look-without-same, look_without_other}
 use Rattle.table.proofs.Placing.{length-put, length_without}

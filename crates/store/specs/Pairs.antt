@@ -1,5 +1,5 @@
 -- Maps from keys to words, as rows sorted by key.
-use Rattle.std.specs.Prelude.{ℕ, ◌-◌, Bool, List, [], ◌∷◌, ◌++◌, length, replicate, is_some, Some, None, Option}
+use Rattle.std.specs.Prelude.{ℕ, ◌-◌, Bool, List, [], ◌++◌, length, replicate, is_some, Some, None, Option}
 use Rattle.std.specs.Option.{option_map}
 use Rattle.store.specs.declared.keys.Key.{Key}
 use Rattle.store.specs.Keys.{key_before}

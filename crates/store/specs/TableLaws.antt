@@ -1,23 +1,22 @@
 -- The rows of a table store, and what they mean.
-use Rattle.std.specs.Prelude.{◌≡◌, ℕ, ◌+◌, ◌-◌, ◌<◌, ◌≤◌, Bool, true, false, cond, ◌&&◌, ◌||◌, List, [], ◌∷◌, ◌++◌, map, length, take, drop, replicate, is_some, Some, None, Ok, Err, Option, Result, nat_lt, refl}
-use Rattle.std.proofs.Common.{sym, ap, subst, ◌∙◌, arith, take-append-drop, length-append, length-take}
+use Rattle.std.specs.Prelude.{◌≡◌, ℕ, ◌-◌, ◌≤◌, Bool, true, false, cond, ◌||◌, List, [], ◌∷◌, ◌++◌, map, length, take, drop, replicate, is_some, Some, None, Ok, Err, Option, nat_lt, refl}
+use Rattle.std.proofs.Common.{sym, ap, subst, ◌∙◌, arith, take-append-drop, length-take}
 use Rattle.std.specs.Option.{option_map}
-use Rattle.std.proofs.lemmas.List.{length-map, length-take-le, take_at, take_all}
-use Rattle.std.proofs.lemmas.Bool.{and_from, lt-ltb, le-leb, ltb-true, cases_Bool}
+use Rattle.std.proofs.lemmas.List.{length-map, length-take-le, take_at}
+use Rattle.std.proofs.lemmas.Bool.{and_from, lt-ltb, le-leb}
 use Rattle.table.proofs.Room.{room_was, no_room_was}
 use Rattle.table.specs.declared.edits.Full.{Full}
 use Rattle.table.specs.Editing.{fits as room_for, put_answer as rows_answer, put_after as rows_after, take_answer, take_after}
 use Rattle.table.specs.Rows as rows
 use Rattle.table.proofs.Maps.{map-look, map-put, map-without, map-sorted, map_next, map_first}
-use Rattle.table.proofs.Placing.{length-put, length_without, without-none}
+use Rattle.table.proofs.Placing.{without-none}
 use Rattle.table.proofs.Sorting.{sorted-put, sorted-without}
 use Rattle.store.specs.declared.keys.Key.{Key}
 use Rattle.store.specs.declared.pair.Pair.{Pair}
-use Rattle.store.specs.declared.refusals.Refusal.{Refusal}
-use Rattle.store.specs.declared.refusals.Refusal.TheVariants.{TooManyTouched, AtLimit, WrongLength}
+use Rattle.store.specs.declared.refusals.Refusal.TheVariants.{AtLimit}
 use Rattle.store.specs.Keys.{key_before}
 use Rattle.store.specs.Model.{Model, Sound, fits, filled, put_answer, put_after, remove_answer, remove_after}
-use Rattle.store.specs.Pairs.{Entry, key_of, entry, holds, put_in, take_out, words_of, shown, ordered, next_key}
+use Rattle.store.specs.Pairs.{Entry, key_of, entry, holds, words_of, shown, next_key}
 use Rattle.store.specs.Tables.{pair_key, meant, rising, table_model, pair_above, Lawful, PutBy, TakenBy}
 use Rattle.store.specs.Orders.{key_order}
 

@@ -1,4 +1,6 @@
 // Stores: keys and pairs, what every store means, and the store that keeps its pairs in sorted rows.
+#![tactic(auto)]
+
 mod keyed;
 mod keys;
 mod pair;

@@ -1,3 +1,5 @@
+#![tactic(auto)]
+
 // Tables, stores and drafts against answers that were worked out by hand.
 #[cfg(test)]
 mod directories;

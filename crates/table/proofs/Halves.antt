@@ -1,11 +1,11 @@
 -- The search by halves: one turn of it, and where it ends among sorted rows.
-use Rattle.std.proofs.Common.{◌≡◌, ℕ, zero, suc, ◌+◌, ◌-◌, ◌/◌, ◌<◌, ◌≤◌, min, Bool, true, false, cond, ◌&&◌, List, [], ◌∷◌, ◌++◌, length, get_or, take, drop, is_some, Ok, Err, sym, refl, ap, ◌∙◌, subst, ⊎_elim, arith, length-append, length-drop, take-append-drop, length-take, get_or-drop, get_or-take, MatchResult}
+use Rattle.std.proofs.Common.{◌≡◌, ℕ, zero, suc, ◌+◌, ◌-◌, ◌/◌, ◌<◌, ◌≤◌, min, Bool, true, false, cond, List, [], ◌∷◌, ◌++◌, length, get_or, take, drop, is_some, Ok, Err, sym, refl, ap, ◌∙◌, subst, ⊎_elim, arith, length-drop, take-append-drop, length-take, get_or-drop, get_or-take, MatchResult}
 use Rattle.std.proofs.lemmas.List.{take-take, drop-drop, drop-take, drop_more, drop_all, take_all, take_rest, length-take-le}
 use Rattle.std.proofs.lemmas.Bool.{cases_Bool, cases_lt, and_parts}
 use Rattle.table.specs.Order.{Order}
 use Rattle.table.specs.Rows.{above, sorted, look, place}
 use Rattle.table.proofs.Sorting.{sorted-take, sorted-drop}
-use Rattle.table.specs.Searching.{by_middle, halving, spot, hit, found, found_sorted}
+use Rattle.table.specs.Searching.{halving, spot, hit, found, found_sorted}
 
 module _ {R K : Type 0} (key : R → K) (before : K → K → Bool) where
   -- among no rows it ends at once

@@ -1,10 +1,10 @@
 -- The first record after a key, by where the key is found.
-use Rattle.std.proofs.Common.{◌≡◌, ℕ, zero, suc, ◌+◌, ◌<◌, ◌≤◌, Bool, true, false, cond, ◌&&◌, List, [], ◌∷◌, length, get_or, drop, is_some, Some, None, Ok, Err, Option, sym, refl, ap, ◌∙◌, ⊎_elim, add-one, arith}
+use Rattle.std.proofs.Common.{◌≡◌, ℕ, suc, ◌<◌, ◌≤◌, Bool, true, false, List, [], ◌∷◌, length, get_or, drop, is_some, Some, None, sym, refl, ap, ◌∙◌, ⊎_elim, add-one}
 use Rattle.std.proofs.lemmas.List.{drop_more, drop_all}
 use Rattle.std.proofs.lemmas.Bool.{both_ways, cases_Bool, and_parts}
 use Rattle.table.specs.Order.{Order}
 use Rattle.table.specs.Rows.{above, sorted, look, place, next, first}
-use Rattle.table.specs.Searching.{found, found_sorted, behind_found, next_found}
+use Rattle.table.specs.Searching.{behind_found, next_found}
 use Rattle.table.proofs.Halves.{found_sorted_lem}
 use Rattle.table.proofs.Lookups.{three}
 

@@ -1,16 +1,14 @@
 -- Putting into sorted rows and taking out of them, by where the search ends.
-use Rattle.std.proofs.Common.{◌≡◌, ℕ, suc, ◌+◌, ◌-◌, ◌<◌, ◌≤◌, min, Bool, true, false, cond, ◌||◌, ltb, List, [], ◌∷◌, ◌++◌, length, take, drop, set, is_some, Some, None, Ok, Err, Option, Result, sym, refl, ap, ◌∙◌, subst, ⊎_elim, arith, take-append-drop, length-take}
-use Rattle.std.specs.List.{insert, remove}
-use Rattle.std.proofs.lemmas.List.Edits.{length-insert, length-remove}
+use Rattle.std.proofs.Common.{◌≡◌, ℕ, ◌+◌, ◌-◌, ◌<◌, ◌≤◌, min, Bool, true, false, cond, ltb, List, [], ◌∷◌, ◌++◌, length, take, drop, set, is_some, Some, Ok, Err, sym, refl, ap, ◌∙◌, ⊎_elim, arith, take-append-drop}
+use Rattle.std.specs.List.{insert}
 use Rattle.std.proofs.lemmas.List.{length-set, set-append_left, length-take-le, take_all, drop_all}
-use Rattle.std.proofs.lemmas.Bool.{cases_Bool, cases_lt, both_ways, lt-ltb, le-ltb}
-use Rattle.table.specs.declared.edits.Full.{Full}
-use Rattle.table.specs.Editing.{insert_answer, insert_after, remove_answer, remove_after, fits, put_answer, put_after, take_answer, take_after}
+use Rattle.std.proofs.lemmas.Bool.{cases_Bool, cases_lt, both_ways}
+use Rattle.table.specs.Editing.{insert_answer, insert_after, remove_answer, remove_after, put_answer, put_after, take_answer, take_after}
 use Rattle.table.specs.Order.{Order}
 use Rattle.table.specs.Rows.{sorted, look, put, without, place}
-use Rattle.table.specs.Searching.{found, found_sorted}
+use Rattle.table.specs.Searching.{found}
 use Rattle.table.proofs.Halves.{found_sorted_lem}
-use Rattle.table.proofs.Placing.{put-over, put_new, without_one, without-none, length-put, length_without}
+use Rattle.table.proofs.Placing.{put-over, put_new, without_one, length-put, length_without}
 
 -- the rows in use, and those behind them
 pub split_rows : {X : Type 0} (used : ℕ) (old : List X) → take used old ++ drop (length (take used old)) old ≡ old

@@ -1,5 +1,5 @@
 -- What putting in and taking out leave of any rows, sorted or not, and what that is for sorted ones.
-use Rattle.std.specs.Prelude.{ℕ, ◌+◌, ◌-◌, Bool, true, false, cond, ◌||◌, List, [], ◌∷◌, ◌++◌, length, drop, is_some, Some, None, Ok, Err, Option, Result, nat_lt, slice_set}
+use Rattle.std.specs.Prelude.{ℕ, ◌+◌, ◌-◌, Bool, cond, ◌||◌, List, ◌++◌, length, drop, is_some, Some, None, Ok, Err, Option, Result, nat_lt, slice_set}
 use Rattle.std.specs.List.{insert, remove}
 use Rattle.table.specs.declared.edits.Full.{Full}
 use Rattle.table.specs.Rows.{look, put, without}

@@ -1,5 +1,5 @@
 -- Rows of records sorted by their keys, and what it means to look one up, put one in and take one out.
-use Rattle.std.specs.Prelude.{ℕ, suc, Bool, true, false, cond, ◌&&◌, List, [], ◌∷◌, Some, None, Option}
+use Rattle.std.specs.Prelude.{ℕ, suc, Bool, true, cond, ◌&&◌, List, [], ◌∷◌, Some, None, Option}
 
 abbrev pub first : {R : Type 0} → List R → Option R
 first [] = None

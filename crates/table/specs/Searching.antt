@@ -1,5 +1,5 @@
 -- What the search answers for any rows, sorted or not, and what that is for sorted ones.
-use Rattle.std.specs.Prelude.{ℕ, zero, suc, ◌+◌, ◌/◌, Bool, true, false, cond, List, [], ◌∷◌, length, take, drop, is_some, Some, None, Ok, Err, Option, Result}
+use Rattle.std.specs.Prelude.{ℕ, zero, suc, ◌+◌, ◌/◌, Bool, cond, List, [], ◌∷◌, length, take, drop, is_some, Ok, Err, Option, Result}
 use Rattle.table.specs.Rows.{look, place, first}
 
 module _ {R K : Type 0} (key : R → K) (before : K → K → Bool) where

@@ -44,9 +44,9 @@ fn shift_out<R: Copy>(rows: &mut [R], used: usize, at: usize)
 // Puts `x` in the place of the record of its key, or adds it, and answers how many rows are in use then.
 // Where no row is free for it, the rows stay as they are.
 pub fn insert<R: Keyed>(rows: &mut [R], used: usize, x: R) -> Result<usize, Full>
-    ensures answer { result ≡ insert_answer rows.old (take used rows.old) (found keyof R.Key.Ordered.before (keyof x) (take used rows.old)) }
-    ensures after { rows.new ≡ insert_after rows.old (take used rows.old) x (found keyof R.Key.Ordered.before (keyof x) (take used rows.old)) }
-    ensures sorted { sorted keyof R.Key.Ordered.before (take used rows.old) ≡ true → (result ≡ put_answer keyof R.Key.Ordered.before rows.old (take used rows.old) x) × (rows.new ≡ put_after keyof R.Key.Ordered.before rows.old (take used rows.old) x) }
+    ensures answer { result ≡ insert_answer rows.old (take used rows.old) (found R.keyof R.Key.Ordered.before (R.keyof x) (take used rows.old)) }
+    ensures after { rows.new ≡ insert_after rows.old (take used rows.old) x (found R.keyof R.Key.Ordered.before (R.keyof x) (take used rows.old)) }
+    ensures sorted { sorted R.keyof R.Key.Ordered.before (take used rows.old) ≡ true → (result ≡ put_answer R.keyof R.Key.Ordered.before rows.old (take used rows.old) x) × (rows.new ≡ put_after R.keyof R.Key.Ordered.before rows.old (take used rows.old) x) }
 {
     let used = used.min(rows.len());
     match find(rows, used, x.key()) {
@@ -66,9 +66,9 @@ pub fn insert<R: Keyed>(rows: &mut [R], used: usize, x: R) -> Result<usize, Full
 
 // Takes the record of `key` out, and answers how many rows are in use then, or `None` where there is none.
 pub fn remove<R: Keyed>(rows: &mut [R], used: usize, key: R::Key) -> Option<usize>
-    ensures answer { result ≡ remove_answer (take used rows.old) (found keyof R.Key.Ordered.before key (take used rows.old)) }
-    ensures after { rows.new ≡ remove_after rows.old (take used rows.old) (found keyof R.Key.Ordered.before key (take used rows.old)) }
-    ensures sorted { sorted keyof R.Key.Ordered.before (take used rows.old) ≡ true → (result ≡ take_answer keyof R.Key.Ordered.before (take used rows.old) key) × (rows.new ≡ take_after keyof R.Key.Ordered.before rows.old (take used rows.old) key) }
+    ensures answer { result ≡ remove_answer (take used rows.old) (found R.keyof R.Key.Ordered.before key (take used rows.old)) }
+    ensures after { rows.new ≡ remove_after rows.old (take used rows.old) (found R.keyof R.Key.Ordered.before key (take used rows.old)) }
+    ensures sorted { sorted R.keyof R.Key.Ordered.before (take used rows.old) ≡ true → (result ≡ take_answer R.keyof R.Key.Ordered.before (take used rows.old) key) × (rows.new ≡ take_after R.keyof R.Key.Ordered.before rows.old (take used rows.old) key) }
 {
     let used = used.min(rows.len());
     match find(rows, used, key) {

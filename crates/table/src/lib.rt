@@ -1,4 +1,6 @@
 // Rows of records in the order of their keys, written once for every kind of record.
+#![tactic(auto)]
+
 mod edits;
 mod keys;
 mod search;

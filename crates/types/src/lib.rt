@@ -1,4 +1,6 @@
 // Types, their abilities and widths, and how many values of one are inside another.
+#![tactic(auto)]
+
 mod abilities;
 mod primitives;
 mod theorems;

@@ -15,7 +15,7 @@ use crate::primitives::{ADDRESS, BOOL, NUM};
 
 pub fn constants_are_as_defined()
     ensures types { (BOOL ≡ bool) × (NUM ≡ num) × (ADDRESS ≡ address) }
-    ensures* abilities { do ⌜ (← (⟦Abilities::PRIMITIVE⟧).entry) ≡ primitive ⌝ }
+    ensures abilities { Abilities.PRIMITIVE ≡ primitive }
 {}
 
 pub fn bytes_and_abilities_tell_each_other()

@@ -1,6 +1,5 @@
 -- Each arm has the kind that it names, and the arms have every kind.
 use Rattle.std.proofs.Common.{arith}
-use Rattle.std.proofs.lemmas.Bool.Decides.{nat_tests}
 use Rattle.std.proofs.lemmas.List.{nil_from_length}
 use Rattle.bytecode.proofs.records.named.Goals as goal
 

@@ -4,5 +4,5 @@ use Rattle.codec.proofs.reading.read_record.Goals as goal
 
 pub returns : goal.returns
 returns c =
-    let parts = c.split-at.ensures in
-    read_first c.args.bytes.now _ c.body-length-n.result _ _ (search rules) c.body-length-n.ensures (omega arith) (search rules) c.in-ok-first.ensures parts.front parts.back
+    let parts = c.split_at.ensures in
+    read_first c.args.bytes.now _ c.body_length-n.result _ _ (search rules) c.body_length-n.ensures (omega arith) (search rules) c.in_ok-first.ensures parts.front parts.back

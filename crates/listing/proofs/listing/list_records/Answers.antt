@@ -6,7 +6,7 @@ use Rattle.listing.proofs.Steps.{Going, begins, less_left, onward, at_end}
 use Rattle.listing.proofs.listing.list_records.Goals as goal
 
 -- what the walk met in this turn
-here : (c : goal.In-ok-writeln) → Met c.args.bytes.now c.loop-placed.walk.place c.in-Ok.placed.place (shown c.in-Ok.placed.«record»)
+here : (c : goal.In_ok-writeln) → Met c.args.bytes.now c.loop-placed.walk.place c.in-Ok.placed.place (shown c.in-Ok.placed.«record»)
 here c = met c.args.bytes.now _ _ _ _ c.loop-placed.invariant.0 c.in-Ok.ensures.answer
 
 pub loop-placed-init : goal.loop-placed-init
@@ -22,7 +22,7 @@ loop-placed-preserved c =
     let next = c.in-Ok.ensures in
     let text = string_bytes c.writeln.new.self in
     let From : ℕ → Type 0 = λ place. Going c.args.bytes.now place text (string_bytes c.args.out.now ++ listing c.args.bytes.now) in
-    (next.same ∙ old.0, subst From (sym next.after) (onward (here c) text old.1 c.in-ok-writeln.ensures.bytes))
+    (next.same ∙ old.0, subst From (sym next.after) (onward (here c) text old.1 c.in_ok-writeln.ensures.bytes))
 
 pub returns : goal.returns
-returns c = at_end _ c.in-default.field-0 c.loop-placed.invariant.1 c.loop-placed.invariant.0 c.in-default.ensures.answer
+returns c = at_end _ c.in_default.field-0 c.loop-placed.invariant.1 c.loop-placed.invariant.0 c.in_default.ensures.answer

@@ -14,10 +14,10 @@ in_turn old first second third again bs n same r p q s e all is =
     s ∙ (λ i. (q ∙ ap (λ l. l ++ listing bs) p ∙ append_assoc old head (listing bs)) i ++ tail (told i))
     ∙ append_assoc old (head ++ listing bs) (tail (codes "the same bytes")) ∙ ap (λ x. old ++ read_answer bs x) is
 
-pub returns-in-ok-writeln-3 : goal.returns-in-ok-writeln-3
-returns-in-ok-writeln-3 c =
-    let written = c.in-ok-writeln-2.ensures.bytes in
-    let last = c.in-ok-writeln-3.ensures.bytes in
-    in_turn (string_bytes c.args.out.now) (string_bytes c.writeln-in-Ok.new.self) (string_bytes c.list-records.new.out) (string_bytes c.writeln-in-Ok-2.new.self)
-    c.same-words-again.result.now c.args.bytes.now c.in-Ok.records c.in-ok-same-again.field-0 _ written c.in-ok-list-records.ensures last c.same-words-again.ensures
-    c.in-ok-same-again.ensures c.in-Ok.ensures.answer
+pub returns-in_ok-writeln-in-Ok-2 : goal.returns-in_ok-writeln-in-Ok-2
+returns-in_ok-writeln-in-Ok-2 c =
+    let written = c.in_ok-writeln-in-Ok.ensures.bytes in
+    let last = c.in_ok-writeln-in-Ok-2.ensures.bytes in
+    in_turn (string_bytes c.args.out.now) (string_bytes c.writeln-in-Ok.new.self) (string_bytes c.list_records.new.out) (string_bytes c.writeln-in-Ok-2.new.self)
+    c.same_words-again.result.now c.args.bytes.now c.in-Ok.records c.in_ok-same_again-in-Ok.field-0 _ written c.in_ok-list_records-in-Ok.ensures last c.same_words-again.ensures
+    c.in_ok-same_again-in-Ok.ensures c.in-Ok.ensures.answer

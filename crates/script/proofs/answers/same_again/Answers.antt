@@ -1,5 +1,6 @@
 use Rattle.std.proofs.Common.{◌≡◌, ℕ, Bool, true, false, cond, leb, List, ◌++◌, length, take, drop, is_ok, Ok, Err, Result, sym, refl, ap, ◌∙◌, arith, length-append}
 use Rattle.std.proofs.lemmas.Slice.Eq.{slice_eq-Decides}
+use Rattle.std.proofs.lemmas.Bool.Decides.{Decides-eqb}
 use Rattle.std.proofs.lemmas.List.{take-append-le}
 use Rattle.bytecode.specs.declared.refusals.Fault.{Fault}
 use Rattle.codec.specs.RoundTrip.{rewriting}
@@ -26,11 +27,11 @@ pub returns-in-Ok : goal.returns-in-Ok
 returns-in-Ok c =
     let bs = c.args.bytes.now in
     let done = c.in-Ok.ensures in
-    let told = whole bs c.as-mut-slice.result.now c.in-Ok.n _ done.answer in
+    let told = whole bs c.as_mut_slice.result.now c.in-Ok.n _ done.answer in
     elim c.if-n-bytes.branch [
       | then-n-bytes w ↦
-          let same = held bs c.as-mut-slice.result.now c.rewrite-module.new.buffer (drop (length c.rewrite-module.new.buffer) c.in-ok-buffer.buffer.items) w.as-slice.result.now c.in-Ok.n c.in-ok-buffer.buffer.len
-          w.as-slice.ensures.value done.after done.back c.in-ok-buffer.ensures.len told.0 in
-          w.result-is ∙ (slice_eq-Decides _ _ _ w.eq.ensures).1 same ∙ sym told.1
+          let same = held bs c.as_mut_slice.result.now c.rewrite_module.new.buffer (drop (length c.rewrite_module.new.buffer) c.in_ok-buffer.buffer.items) w.as_slice.result.now c.in-Ok.n c.in_ok-buffer.buffer.len
+          w.as_slice.ensures.value done.after done.back c.in_ok-buffer.ensures.len told.0 in
+          w.result-is ∙ (slice_eq-Decides Decides-eqb _ _ _ w.eq.ensures).1 same ∙ sym told.1
       | else-n-bytes w ↦ absurd (w.if-n-bytes.false told.0)
     ]

@@ -1,4 +1,4 @@
-use Rattle.std.proofs.Common.{◌≡◌, ◌+◌, ◌<◌, ◌≤◌, true, false, ltb, ◌++◌, length, take, drop, Ok, Err, sym, refl, ap, ◌∙◌, arith, take-append-drop}
+use Rattle.std.proofs.Common.{◌≡◌, ◌+◌, true, false, ltb, ◌++◌, length, take, drop, Ok, Err, sym, ap, ◌∙◌, arith, take-append-drop}
 use Rattle.std.proofs.lemmas.Bool.{lt-ltb, le-ltb}
 use Rattle.std.specs.List.{insert}
 use Rattle.table.specs.Editing.{insert_answer, insert_after}
@@ -45,8 +45,8 @@ returns-else-used-rows g c =
     c.in-Err.ensures.answer ∙ ap (λ k. found key before k (take u old)) c.key.ensures ∙ ap (found key before (key c.args.x)) cl.0 in
     let free : ltb (length rs) (length old) ≡ true = lt-ltb (length rs) (length old) (omega (arith, cl.1, c.min-used.ensures)) in
     let e = ap (λ n. Ok (n + 1)) (sym cl.1) ∙ sym (room_answer old rs c.in-Err.at free) ∙ ap (insert_answer old rs) f in
-    let now : c.shift-in.new.rows ≡ insert rs c.in-Err.at c.args.x ++ drop (length rs + 1) old =
-    sym (take-append-drop (u + 1) c.shift-in.new.rows) ∙ (λ i. c.shift-in.ensures.front i ++ c.shift-in.ensures.back i)
+    let now : c.shift_in.new.rows ≡ insert rs c.in-Err.at c.args.x ++ drop (length rs + 1) old =
+    sym (take-append-drop (u + 1) c.shift_in.new.rows) ∙ (λ i. c.shift_in.ensures.front i ++ c.shift_in.ensures.back i)
     ∙ ap (λ l. insert l c.in-Err.at c.args.x ++ drop (u + 1) old) cl.0 ∙ ap (λ n. insert rs c.in-Err.at c.args.x ++ drop (n + 1) old) (sym cl.1) in
     let a = now ∙ sym (room_after old rs c.args.x c.in-Err.at free) ∙ ap (insert_after old rs c.args.x) f in
     record { answer = e; after = a; sorted = λ s. let t = insert-sorted key before g.met.R.Key.Ordered.order old c.args.used c.args.x s in (e ∙ t.0, a ∙ t.1) }

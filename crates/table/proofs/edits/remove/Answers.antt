@@ -15,8 +15,8 @@ returns-in-Ok g c =
     let cl = clamped u c.args.used old c.min-used.ensures in
     let f : Ok c.in-Ok.at ≡ found key before c.args.key rs = c.in-Ok.ensures.answer ∙ ap (found key before c.args.key) cl.0 in
     let e = ap (λ n. Some (n - 1)) (sym cl.1) ∙ ap (remove_answer rs) f in
-    let now : c.shift-out.new.rows ≡ remove rs c.in-Ok.at ++ drop (length rs - 1) old =
-    sym (take-append-drop (u - 1) c.shift-out.new.rows) ∙ (λ i. c.shift-out.ensures.front i ++ c.shift-out.ensures.back i)
+    let now : c.shift_out.new.rows ≡ remove rs c.in-Ok.at ++ drop (length rs - 1) old =
+    sym (take-append-drop (u - 1) c.shift_out.new.rows) ∙ (λ i. c.shift_out.ensures.front i ++ c.shift_out.ensures.back i)
     ∙ ap (λ l. remove l c.in-Ok.at ++ drop (u - 1) old) cl.0 ∙ ap (λ n. remove rs c.in-Ok.at ++ drop (n - 1) old) (sym cl.1) in
     let a = now ∙ ap (remove_after old rs) f in
     record { answer = e; after = a; sorted = λ s. let t = remove-sorted key before g.met.R.Key.Ordered.order old c.args.used c.args.key s in (e ∙ t.0, a ∙ t.1) }

@@ -1,4 +1,4 @@
-use Rattle.std.proofs.Common.{◌≡◌, arith}
+use Rattle.std.proofs.Common.{arith}
 use Rattle.table.proofs.Shifts.{shifted_in, kept_above}
 use Rattle.table.proofs.edits.shift_in.Goals as goal
 

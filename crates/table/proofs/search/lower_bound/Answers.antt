@@ -5,14 +5,14 @@ use Rattle.table.proofs.search.lower_bound.Goals as goal
 pub loop-low-init : goal.loop-low-init
 loop-low-init g c = begins _ _ _ _
 
-pub loop-low-preserved-then-is-before : goal.loop-low-preserved-then-is-before
-loop-low-preserved-then-is-before g c =
-    let b : g.R.Key.Ordered.before (g.R.Keyed.keyof c.index-rows-middle.result) c.args.key ≡ true = cc c.if-is-before.ensures in
+pub loop-low-preserved-then-is_before : goal.loop-low-preserved-then-is_before
+loop-low-preserved-then-is_before g c =
+    let b : g.R.Key.Ordered.before (g.R.Keyed.keyof c.index-rows-middle.result) c.args.key ≡ true = cc c.if-is_before.ensures in
     go_up _ _ c.loop-low.invariant (omega arith) _ refl c.index-rows-middle.result c.index-rows-middle.is b
 
 pub loop-low-preserved : goal.loop-low-preserved
 loop-low-preserved g c =
-    let b : g.R.Key.Ordered.before (g.R.Keyed.keyof c.index-rows-middle.result) c.args.key ≡ false = cc c.if-is-before.ensures in
+    let b : g.R.Key.Ordered.before (g.R.Keyed.keyof c.index-rows-middle.result) c.args.key ≡ false = cc c.if-is_before.ensures in
     go_down _ _ c.loop-low.invariant (omega arith) _ refl c.index-rows-middle.result c.index-rows-middle.is b
 
 pub returns : goal.returns

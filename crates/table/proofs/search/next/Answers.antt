@@ -9,6 +9,6 @@ returns g c =
     let key = g.R.Keyed.keyof in
     let before = g.R.Key.Ordered.before in
     let rows = c.args.rows.now in
-    let e : c.seek-next.result ≡ next_found key before c.args.key (take c.args.used rows) =
-    c.seek-next.ensures ∙ ap (λ n. next_found key before c.args.key (take (n - 0) rows)) c.min.ensures ∙ ap (next_found key before c.args.key) (take_min c.args.used rows) in
+    let e : c.seek_next.result ≡ next_found key before c.args.key (take c.args.used rows) =
+    c.seek_next.ensures ∙ ap (λ n. next_found key before c.args.key (take (n - 0) rows)) c.min.ensures ∙ ap (next_found key before c.args.key) (take_min c.args.used rows) in
     record { answer = e; sorted = λ s. e ∙ next-sorted key before g.met.R.Key.Ordered.order c.args.key (take c.args.used rows) s }

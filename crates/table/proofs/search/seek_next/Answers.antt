@@ -1,6 +1,6 @@
-use Rattle.std.proofs.Common.{◌≡◌, drop, ap, ◌∙◌}
+use Rattle.std.proofs.Common.{drop, ap, ◌∙◌}
 use Rattle.table.specs.Rows.{first}
-use Rattle.table.specs.Searching.{behind_found, next_found}
+use Rattle.table.specs.Searching.{behind_found}
 use Rattle.table.proofs.Nexts.{first_there, first_past}
 use Rattle.table.proofs.search.seek_next.Goals as goal
 use Rattle.table.proofs.search.seek_next.Goals.{in-Ok, in-Err}

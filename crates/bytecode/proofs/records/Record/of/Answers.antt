@@ -5,4 +5,4 @@ use Rattle.bytecode.proofs.records.Record.of.Goals as goal
 pub named-requires : goal.named-requires
 unfolding body_length
 named-requires c =
-    (c.if-body-n.false ∙ c.body-length-n.ensures, omega (arith, c.body-length-n.ensures))
+    record { body_len = c.if-body-n.false ∙ c.body_length-n.ensures; kind_bound = omega (arith, c.body_length-n.ensures) }

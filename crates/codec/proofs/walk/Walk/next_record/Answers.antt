@@ -1,4 +1,4 @@
-use Rattle.std.proofs.Common.{refl, ap, arith, rules}
+use Rattle.std.proofs.Common.{refl, ap, arith}
 use Rattle.codec.specs.Walking.{placed}
 use Rattle.codec.proofs.FirstRecord.{no_more, from_place, next_place}
 use Rattle.codec.proofs.walk.Walk.next_record.Goals as goal
@@ -6,8 +6,8 @@ use Rattle.codec.proofs.walk.Walk.next_record.Goals as goal
 pub returns-then-place-self : goal.returns-then-place-self
 returns-then-place-self c = record { answer = no_more c.args.self.now.«module».now c.args.self.now.place c.if-place-self.true; after = refl; same = refl }
 
-pub overflow-sub-self : goal.overflow-sub-self
-overflow-sub-self c = (next_place c.args.self.now.«module».now c.args.self.now.place _ (omega arith) (from_place c.args.self.now.«module».now c.args.self.now.place _ c.in-Ok.ensures)).1
+pub overflow_sub-self : goal.overflow_sub-self
+overflow_sub-self c = (next_place c.args.self.now.«module».now c.args.self.now.place _ (omega arith) (from_place c.args.self.now.«module».now c.args.self.now.place _ c.in-Ok.ensures)).1
 
 pub returns-in-Err : goal.returns-in-Err
 returns-in-Err c = record {

@@ -1,4 +1,4 @@
-use Rattle.std.proofs.Common.{◌≡◌, ◌<◌, length, take, Some, sym, ap, ◌∙◌, arith, length-take, get_or-take}
+use Rattle.std.proofs.Common.{◌<◌, take, Some, sym, ap, ◌∙◌, arith, length-take, get_or-take}
 use Rattle.table.proofs.Found.{found_there}
 use Rattle.store.specs.Keys.{key_before}
 use Rattle.draft.specs.Changes.{change_key}

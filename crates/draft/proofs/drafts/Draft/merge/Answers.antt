@@ -1,7 +1,7 @@
-use Rattle.std.proofs.Common.{◌≡◌, take, sym, ap, ◌∙◌}
+use Rattle.std.proofs.Common.{take, sym, ap, ◌∙◌}
 use Rattle.store.specs.Model.{Model}
 use Rattle.draft.specs.Layer.{entries}
-use Rattle.draft.specs.Merging.{removing, putting, merged}
+use Rattle.draft.specs.Merging.{putting}
 use Rattle.draft.proofs.Merges.{merge_done, merged_pairs}
 use Rattle.draft.specs.Soundness.{ordered-entries, few-changed}
 use Rattle.draft.proofs.drafts.Draft.merge.Goals as goal
@@ -13,16 +13,16 @@ returns g c =
     let m = means d.below in
     let ts = entries d.changes in
     let rises = (g.met.S.Store.sound d.below).rises in
-    let fit = c.if-not-fits-below.ensures in
+    let fit = c.if-not-fits_below.ensures in
     let calls =
-    ap means c.forget.ensures.below ∙ c.carry-all-2.ensures.below
-    ∙ ap (λ z. putting (entries z) (means c.carry-all.new.self.below)) c.carry-all.ensures.changes
-    ∙ ap (putting ts) c.carry-all.ensures.below in
+    ap means c.forget.ensures.below ∙ c.carry_all-2.ensures.below
+    ∙ ap (λ z. putting (entries z) (means c.carry_all.new.self.below)) c.carry_all.ensures.changes
+    ∙ ap (putting ts) c.carry_all.ensures.below in
     record {
       answer = fit;
       calls = calls;
       below = λ room yes. calls ∙ merge_done ts m (ordered-entries d.changes) rises (few-changed (take d.changes.used d.changes.rows)) (sym (fit room));
       map = λ room yes. ap (λ (z : Model). z.pairs) (calls ∙ merge_done ts m (ordered-entries d.changes) rises (few-changed (take d.changes.used d.changes.rows)) (sym (fit room))) ∙ merged_pairs ts m (ordered-entries d.changes) rises;
       changes = c.forget.ensures.empty;
-      under = ap g.S.Store.under c.forget.ensures.below ∙ c.carry-all-2.ensures.under ∙ c.carry-all.ensures.under;
+      under = ap g.S.Store.under c.forget.ensures.below ∙ c.carry_all-2.ensures.under ∙ c.carry_all.ensures.under;
     }

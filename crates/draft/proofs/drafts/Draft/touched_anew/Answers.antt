@@ -1,4 +1,4 @@
-use Rattle.std.proofs.Common.{◌≡◌, ℕ, ◌+◌, ◌-◌, ◌<◌, true, false, cond, length, get_or, drop, sym, ap, ◌∙◌, arith, length-drop, rules}
+use Rattle.std.proofs.Common.{◌≡◌, ℕ, ◌+◌, ◌-◌, ◌<◌, cond, get_or, drop, sym, ap, ◌∙◌, arith, length-drop, rules}
 use Rattle.std.proofs.lemmas.List.{drop_all, get_or_default}
 use Rattle.draft.specs.Changes.{changed}
 use Rattle.draft.specs.Layer.{entries}
@@ -15,8 +15,8 @@ loop-i-init g c =
     let none = drop_all d.changes.used ts (omega (arith, length-entries d.changes)) in
     (omega arith, ap (touched_anew (g.S.Store.means d.below)) (sym none))
 
-pub overflow-add-n : goal.overflow-add-n
-overflow-add-n g c =
+pub overflow_add-n : goal.overflow_add-n
+overflow_add-n g c =
     let d = c.args.self.now in
     let few = anew_few (g.S.Store.means d.below) (drop c.loop-i.i (entries d.changes)) in
     let l = length-drop c.loop-i.i (entries d.changes) in
@@ -25,8 +25,8 @@ overflow-add-n g c =
     let i = c.loop-i.invariant.1 in
     search rules
 
-pub loop-i-preserved-then-touches-anew : goal.loop-i-preserved-then-touches-anew
-loop-i-preserved-then-touches-anew g c =
+pub loop-i-preserved-then-touches_anew : goal.loop-i-preserved-then-touches_anew
+loop-i-preserved-then-touches_anew g c =
     let d = c.args.self.now in
     let m = g.S.Store.means d.below in
     let cs = d.changes.rows in
@@ -37,7 +37,7 @@ loop-i-preserved-then-touches-anew g c =
     let at : x ≡ get_or cs i x = get_or_default cs i c.index-self-i.result x (omega (arith, d.changes.long, d.changes.within)) in
     let next : c.loop-i.i ≡ i + 1 = omega (arith, c.loop-i-test.true) in
     let step = anew_next ts i (changed x) (omega (arith, length-entries d.changes)) (change_at d.changes i x here at) m in
-    let yes : ◌≡◌ {A = ℕ} 1 (cond (touches_anew m (changed x)) 1 0) = ap (λ z. cond z 1 0) c.if-touches-anew.ensures in
+    let yes : ◌≡◌ {A = ℕ} 1 (cond (touches_anew m (changed x)) 1 0) = ap (λ z. cond z 1 0) c.if-touches_anew.ensures in
     let before : c.loop-i.n ≡ touched_anew m (drop (i + 1) ts) = c.loop-i.invariant.1 ∙ ap (λ z. touched_anew m (drop z ts)) next in
     (omega (arith, c.loop-i.invariant.0), omega arith)
 
@@ -53,6 +53,6 @@ loop-i-preserved g c =
     let at : x ≡ get_or cs i x = get_or_default cs i c.index-self-i.result x (omega (arith, d.changes.long, d.changes.within)) in
     let next : c.loop-i.i ≡ i + 1 = omega (arith, c.loop-i-test.true) in
     let step = anew_next ts i (changed x) (omega (arith, length-entries d.changes)) (change_at d.changes i x here at) m in
-    let no_touch : ◌≡◌ {A = ℕ} 0 (cond (touches_anew m (changed x)) 1 0) = ap (λ z. cond z 1 0) c.if-touches-anew.ensures in
+    let no_touch : ◌≡◌ {A = ℕ} 0 (cond (touches_anew m (changed x)) 1 0) = ap (λ z. cond z 1 0) c.if-touches_anew.ensures in
     let before : c.loop-i.n ≡ touched_anew m (drop (i + 1) ts) = c.loop-i.invariant.1 ∙ ap (λ z. touched_anew m (drop z ts)) next in
     (omega (arith, c.loop-i.invariant.0), omega arith)

@@ -1,4 +1,4 @@
-use Rattle.std.proofs.Common.{is_some, sym, ap, ◌∙◌}
+use Rattle.std.proofs.Common.{is_some, ap, ◌∙◌}
 use Rattle.draft.proofs.LayerLaws.{has_changed, unchanged_entry}
 use Rattle.draft.proofs.layers.DraftStore.has.Goals as goal
 

@@ -1,4 +1,4 @@
-use Rattle.std.proofs.Common.{◌≡◌, ◌<◌, ◌≤◌, true, false, ◌∷◌, map, length, Some, sym, refl, ap, ◌∙◌, arith}
+use Rattle.std.proofs.Common.{◌≡◌, ◌<◌, ◌≤◌, true, false, map, length, Some, sym, refl, ap, ◌∙◌, arith}
 use Rattle.std.proofs.lemmas.Bool.{eqb-false}
 use Rattle.store.specs.Keys.{key_before}
 use Rattle.store.specs.Model.{may_touch}
@@ -18,7 +18,7 @@ returns-then-note g c =
     let k = c.args.key in
     let ws = c.args.words.now in
     let is = c.in-Some.ensures in
-    let some : 0 < length ws = omega (arith, eqb-false (length ws) 0 (sym c.if-is-empty.ensures)) in
+    let some : 0 < length ws = omega (arith, eqb-false (length ws) 0 (sym c.if-is_empty.ensures)) in
     let few : length ts ≤ 64 = omega (arith, length-entries d.changes, d.changes.within) in
     let may : may_touch (Some (map key_of ts)) k ≡ true = ap (may_touch (Some (map key_of ts))) (sym (ap (λ (z : Entry). z.0) is)) ∙ sym c.if-note.ensures.answer in
     let e : entries c.note.new.self ≡ put_in k ws ts = c.if-note.ensures.after ∙ ap (λ (z : Entry). rows.put key_of key_before z ts) is in
@@ -36,7 +36,7 @@ returns-else-note g c =
     let k = c.args.key in
     let ws = c.args.words.now in
     let is = c.in-Some.ensures in
-    let some : 0 < length ws = omega (arith, eqb-false (length ws) 0 (sym c.if-is-empty.ensures)) in
+    let some : 0 < length ws = omega (arith, eqb-false (length ws) 0 (sym c.if-is_empty.ensures)) in
     let may : may_touch (Some (map key_of ts)) k ≡ false = ap (may_touch (Some (map key_of ts))) (sym (ap (λ (z : Entry). z.0) is)) ∙ sym c.if-note.ensures.answer in
     record {
       answer = put_capped (layer m ts) k ws (fits-changed c.in-Some.change k ws is some) may;

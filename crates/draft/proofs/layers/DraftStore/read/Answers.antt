@@ -1,4 +1,4 @@
-use Rattle.std.proofs.Common.{length, sym, ap, ◌∙◌, arith}
+use Rattle.std.proofs.Common.{length, ap, ◌∙◌, arith}
 use Rattle.store.specs.Pairs.{words_of, shown}
 use Rattle.draft.proofs.LayerLaws.{count_of_changed, place_of_words, place_of_none, unchanged_entry}
 use Rattle.draft.proofs.layers.DraftStore.read.Goals as goal

@@ -1,4 +1,4 @@
-use Rattle.std.proofs.Common.{◌≡◌, true, false, [], ◌∷◌, map, Some, sym, refl, ap, ◌∙◌}
+use Rattle.std.proofs.Common.{◌≡◌, true, false, [], map, Some, sym, refl, ap, ◌∙◌}
 use Rattle.store.specs.Keys.{key_before}
 use Rattle.store.specs.Model.{may_touch}
 use Rattle.store.specs.Pairs.{Entry, key_of, put_in}

@@ -5,4 +5,4 @@ use Rattle.draft.proofs.layers.DraftStore.touches.Goals as goal
 
 pub returns : goal.returns
 returns g c =
-    c.is-some.ensures ∙ sym (is_some_mapped _ c.get.result) ∙ ap is_some c.get.ensures ∙ sym (touched_entries c.args.self.now.changes c.args.key)
+    c.is_some.ensures ∙ sym (is_some_mapped _ c.get.result) ∙ ap is_some c.get.ensures ∙ sym (touched_entries c.args.self.now.changes c.args.key)

@@ -3,18 +3,18 @@ use Rattle.groups.specs.Groups.{groups}
 use Rattle.groups.proofs.Spans.{add_tight, add_groups, last_span, no_groups}
 use Rattle.groups.proofs.grouped.Grouped.add.Goals as goal
 
-pub overflow-add-span : goal.overflow-add-span
-overflow-add-span g c =
+pub overflow_add-span : goal.overflow_add-span
+overflow_add-span g c =
     let h = last_span (vec_items c.args.self.now.spans) (vec_items c.pop.new.self) c.in-Some.span (vec_len c.args.self.now.items) c.args.self.now.inside c.in-Some.ensures.items in
     search rules
 
-pub invariant-of-self : goal.invariant-of-self
-invariant-of-self g c =
-    let k = c.in-Some.ensures.capacity in (
-      add_tight (vec_items c.args.self.now.spans) (vec_items c.pop.new.self) (vec_items c.push-reserved-in-Some.new.self) c.in-Some.span _ _ c.args.self.now.inside c.in-Some.ensures.items
-          c.push-reserved-in-Some.ensures.items c.push-reserved.ensures.len,
-      ((omega arith, omega arith), tt),
-    )
+pub invariant_of-self : goal.invariant_of-self
+invariant_of-self g c =
+    let k = c.in-Some.ensures.capacity in record {
+      inside = add_tight (vec_items c.args.self.now.spans) (vec_items c.pop.new.self) (vec_items c.push_reserved-in-Some.new.self) c.in-Some.span _ _ c.args.self.now.inside c.in-Some.ensures.items
+          c.push_reserved-in-Some.ensures.items c.push_reserved.ensures.len;
+      room = (omega arith, omega arith);
+    }
 
 pub returns-in-Some : goal.returns-in-Some
 unfolding groups
@@ -22,21 +22,21 @@ returns-in-Some g c =
     let l = c.in-Some.ensures.len in
     record {
       after =
-          add_groups (vec_items c.args.self.now.spans) (vec_items c.pop.new.self) (vec_items c.push-reserved-in-Some.new.self) c.in-Some.span (vec_items c.args.self.now.items)
-          (vec_items c.push-reserved.new.self) c.args.item _ c.args.self.now.inside c.args.self.now.items.ok.0 c.in-Some.ensures.items c.push-reserved-in-Some.ensures.items
-          c.push-reserved.ensures.items;
+          add_groups (vec_items c.args.self.now.spans) (vec_items c.pop.new.self) (vec_items c.push_reserved-in-Some.new.self) c.in-Some.span (vec_items c.args.self.now.items)
+          (vec_items c.push_reserved.new.self) c.args.item _ c.args.self.now.inside c.args.self.now.items.ok.0 c.in-Some.ensures.items c.push_reserved-in-Some.ensures.items
+          c.push_reserved.ensures.items;
       count = omega arith;
       size = omega arith;
     }
 
-pub returns-in-default : goal.returns-in-default
+pub returns-in_default : goal.returns-in_default
 unfolding groups
-returns-in-default g c =
-    let l = c.in-default.ensures.len in
+returns-in_default g c =
+    let l = c.in_default.ensures.len in
     let o = c.args.self.now.spans.ok.0 in
-    let k = c.in-default.ensures.cases in
+    let k = c.in_default.ensures.cases in
     record {
-      after = no_groups (vec_items c.args.self.now.items) (vec_items c.args.self.now.spans) (vec_items c.pop.new.self) _ c.in-default.ensures.items (omega arith);
+      after = no_groups (vec_items c.args.self.now.items) (vec_items c.args.self.now.spans) (vec_items c.pop.new.self) _ c.in_default.ensures.items (omega arith);
       count = omega arith;
       size = omega arith;
     }

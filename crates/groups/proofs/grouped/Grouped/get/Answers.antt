@@ -10,14 +10,14 @@ unfolding groups
 returns-then-i-len g c =
     sym (get_or_past (map (part (vec_items c.args.self.now.items)) (vec_items c.args.self.now.spans)) c.args.i [] (let o = c.args.self.now.spans.ok.0 in simp length-map (omega arith)))
 
-pub overflow-add-end : goal.overflow-add-end
-overflow-add-end g c = let h = bound (vec_len c.args.self.now.items) (vec_items c.args.self.now.spans) c.args.i c.index-span.result.now c.args.self.now.inside (let o = c.args.self.now.spans.ok.0 in omega arith) c.index-span.ensures in search rules
+pub overflow_add-end : goal.overflow_add-end
+overflow_add-end g c = let h = bound (vec_len c.args.self.now.items) (vec_items c.args.self.now.spans) c.args.i c.index-span.result.now c.args.self.now.inside (let o = c.args.self.now.spans.ok.0 in omega arith) c.index-span.ensures in search rules
 
-pub offset-bounds-deref-start : goal.offset-bounds-deref-start
-offset-bounds-deref-start g c = let h = bound (vec_len c.args.self.now.items) (vec_items c.args.self.now.spans) c.args.i c.index-span.result.now c.args.self.now.inside (let o = c.args.self.now.spans.ok.0 in omega arith) c.index-span.ensures in search rules
+pub offset_bounds-deref-start : goal.offset_bounds-deref-start
+offset_bounds-deref-start g c = let h = bound (vec_len c.args.self.now.items) (vec_items c.args.self.now.spans) c.args.i c.index-span.result.now c.args.self.now.inside (let o = c.args.self.now.spans.ok.0 in omega arith) c.index-span.ensures in search rules
 
-pub slice-bounds-result-end-2 : goal.slice-bounds-result-end-2
-slice-bounds-result-end-2 g c = let h = bound (vec_len c.args.self.now.items) (vec_items c.args.self.now.spans) c.args.i c.index-span.result.now c.args.self.now.inside (let o = c.args.self.now.spans.ok.0 in omega arith) c.index-span.ensures in search rules
+pub slice_bounds-result-end-2 : goal.slice_bounds-result-end-2
+slice_bounds-result-end-2 g c = let h = bound (vec_len c.args.self.now.items) (vec_items c.args.self.now.spans) c.args.i c.index-span.result.now c.args.self.now.inside (let o = c.args.self.now.spans.ok.0 in omega arith) c.index-span.ensures in search rules
 
 pub returns : goal.returns
 unfolding groups

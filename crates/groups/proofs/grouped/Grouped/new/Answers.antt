@@ -5,6 +5,6 @@ use Rattle.groups.proofs.grouped.Grouped.new.Goals as goal
 pub returns : goal.returns
 unfolding groups
 returns g c =
-    let s = c.in-ok-spans.ensures in
-    let i = c.in-ok-items.ensures in
+    let s = c.in_ok-spans.ensures in
+    let i = c.in_ok-items.ensures in
     (no_parts _ _ s.items, s.len, i.len)

@@ -4,9 +4,9 @@ use Rattle.modules.proofs.Decoding.{begins, room, onward, all, too_long}
 use Rattle.modules.proofs.ModuleBounds.{decoded_bounded}
 use Rattle.modules.proofs.rows.Rows.decode.Goals as goal
 
-pub returns-then-bytes-gt-MAX-MODULE : goal.returns-then-bytes-gt-MAX-MODULE
-returns-then-bytes-gt-MAX-MODULE c =
-    let e = too_long _ _ c.if-bytes-gt-MAX-MODULE.true c.clear.ensures in
+pub returns-then-bytes-gt-MAX_MODULE : goal.returns-then-bytes-gt-MAX_MODULE
+returns-then-bytes-gt-MAX_MODULE c =
+    let e = too_long _ _ c.if-bytes-gt-MAX_MODULE.true c.clear.ensures in
     record { means = e; bounded = decoded_bounded _ _ e }
 
 pub loop-placed-init : goal.loop-placed-init
@@ -15,7 +15,7 @@ loop-placed-init c = (c.over-walk.ensures.over, begins _ c.clear.ensures c.over-
 pub add-requires : goal.add-requires
 add-requires c =
     let m = met c.args.bytes.now _ _ _ _ c.loop-placed.invariant.0 c.in-Ok.ensures.answer in
-    room c.loop-placed.invariant.1 m c.if-bytes-gt-MAX-MODULE.false
+    room c.loop-placed.invariant.1 m c.if-bytes-gt-MAX_MODULE.false
 
 pub loop-placed-smaller : goal.loop-placed-smaller
 loop-placed-smaller c =
@@ -32,5 +32,5 @@ loop-placed-preserved c =
 
 pub returns : goal.returns
 returns c =
-    let e = all _ _ c.loop-placed.invariant.1 c.if-bytes-gt-MAX-MODULE.false c.loop-placed.invariant.0 c.in-default.ensures.answer in
+    let e = all _ _ c.loop-placed.invariant.1 c.if-bytes-gt-MAX_MODULE.false c.loop-placed.invariant.0 c.in_default.ensures.answer in
     record { means = e; bounded = decoded_bounded _ _ e }

@@ -10,7 +10,7 @@ first_of (suc n) (y ∷ ys) x h l e = ap Some e
 
 pub returns-then-rows-gt0 : goal.returns-then-rows-gt0
 returns-then-rows-gt0 c l =
-    let v = c.as-slice-rows.ensures.value in
-    first_of c.args.self.now.used c.as-slice-rows.result.now c.index-rows-0.result c.if-self-gt0.true c.if-rows-gt0.true c.index-rows-0.is
+    let v = c.as_slice-rows.ensures.value in
+    first_of c.args.self.now.used c.as_slice-rows.result.now c.index-rows-0.result c.if-self-gt0.true c.if-rows-gt0.true c.index-rows-0.is
     ∙ ap (λ t. first (take c.args.self.now.used t)) v
     ∙ ap (λ a. pair_above a (take c.args.self.now.used (vec_items c.args.self.now.items))) (sym c.in-None.is)

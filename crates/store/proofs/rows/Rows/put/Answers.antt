@@ -10,9 +10,9 @@ returns-in-Ok c l =
     let v = c.args.self.now.items in
     let used = c.args.self.now.used in
     let new = c.insert.new.rows in
-    let same : length new ≡ length v.items = c.insert.auto.rows ∙ ap length c.as-mut-slice.ensures.value in
+    let same : length new ≡ length v.items = c.insert.auto.rows ∙ ap length c.as_mut_slice.ensures.value in
     let e : (with_items v new).items ≡ new = with_items_is v new (same ∙ sym v.ok.0) in
-    let h = simp c.as-mut-slice.ensures.value at c.in-Ok.ensures.sorted in
+    let h = simp c.as_mut_slice.ensures.value at c.in-Ok.ensures.sorted in
     let t = h l.1 in
     subst (λ z. PutBy v.items used c.args.pair z c.in-Ok.n true) (sym e) (inserted_by v.items new used l same c.args.pair c.in-Ok.n t.0 t.1)
 
@@ -21,8 +21,8 @@ returns-in-Err c l =
     let v = c.args.self.now.items in
     let used = c.args.self.now.used in
     let new = c.insert.new.rows in
-    let same : length new ≡ length v.items = c.insert.auto.rows ∙ ap length c.as-mut-slice.ensures.value in
+    let same : length new ≡ length v.items = c.insert.auto.rows ∙ ap length c.as_mut_slice.ensures.value in
     let e : (with_items v new).items ≡ new = with_items_is v new (same ∙ sym v.ok.0) in
-    let h = simp c.as-mut-slice.ensures.value at c.in-Err.ensures.sorted in
+    let h = simp c.as_mut_slice.ensures.value at c.in-Err.ensures.sorted in
     let t = h l.1 in
     subst (λ z. PutBy v.items used c.args.pair z used false) (sym e) (not_inserted_by v.items new used l same c.args.pair _ t.0 t.1)

@@ -10,9 +10,9 @@ returns-in-Some c l =
     let v = c.args.self.now.items in
     let used = c.args.self.now.used in
     let new = c.remove.new.rows in
-    let same : length new ≡ length v.items = c.remove.auto.rows ∙ ap length c.as-mut-slice.ensures.value in
+    let same : length new ≡ length v.items = c.remove.auto.rows ∙ ap length c.as_mut_slice.ensures.value in
     let e : (with_items v new).items ≡ new = with_items_is v new (same ∙ sym v.ok.0) in
-    let h = simp c.as-mut-slice.ensures.value at c.in-Some.ensures.sorted in
+    let h = simp c.as_mut_slice.ensures.value at c.in-Some.ensures.sorted in
     let t = h l.1 in
     subst (λ z. TakenBy v.items used c.args.key z c.in-Some.n true) (sym e) (removed_by v.items new used l same c.args.key c.in-Some.n t.0 t.1)
 
@@ -21,8 +21,8 @@ returns-in-None c l =
     let v = c.args.self.now.items in
     let used = c.args.self.now.used in
     let new = c.remove.new.rows in
-    let same : length new ≡ length v.items = c.remove.auto.rows ∙ ap length c.as-mut-slice.ensures.value in
+    let same : length new ≡ length v.items = c.remove.auto.rows ∙ ap length c.as_mut_slice.ensures.value in
     let e : (with_items v new).items ≡ new = with_items_is v new (same ∙ sym v.ok.0) in
-    let h = simp c.as-mut-slice.ensures.value at c.in-None.ensures.sorted in
+    let h = simp c.as_mut_slice.ensures.value at c.in-None.ensures.sorted in
     let t = h l.1 in
     subst (λ z. TakenBy v.items used c.args.key z used false) (sym e) (not_removed_by v.items new used l same c.args.key t.0 t.1)
