@@ -3,7 +3,7 @@ use Rattle.std.proofs.Common.{◌≡◌, ℕ, ◌+◌, ◌≤◌, true, false, c
 use Rattle.std.proofs.ByRecursion.{All-append, All-map}
 use Rattle.std.proofs.lemmas.List.{length-map}
 use Rattle.std.proofs.lemmas.Bool.{ltb-true, le-leb}
-use Rattle.std.specs.List.{flat_map, AllByRecursion as All}
+use Rattle.std.specs.List.{flat_map, AllByRecursion}
 use Rattle.operands.specs.Operands.{low_first}
 use Rattle.bytecode.specs.Ranges.{in_range}
 use Rattle.bytecode.specs.Records.{Shown, bytes_of}
@@ -21,13 +21,13 @@ use Rattle.modules.proofs.PlaceLaws.{places_inside, structs_inside, functions_in
 use Rattle.modules.proofs.Sizes.{Behind, Structs, Functions, structs_sized, functions_sized, silent, through, placed-append, placed_of, each_of, Without}
 
 -- what holds of each record of structs
-structs_each : (P : At → Type 0) → ((r : At) → Is Struct r.1 → P r) → ((r : At) → Is Field r.1 → P r) → {n : ℕ} {xs : List Shown} → Rows StructRow n xs → (at : ℕ) → All P (placed_from at xs)
+structs_each : (P : At → Type 0) → ((r : At) → Is Struct r.1 → P r) → ((r : At) → Is Field r.1 → P r) → {n : ℕ} {xs : List Shown} → Rows StructRow n xs → (at : ℕ) → AllByRecursion P (placed_from at xs)
 unfolding placed_from
 structs_each P f g no_more at = tt
 structs_each P f g (and {xs = xs} {ys = ys} s further) at =
-    subst (All P) (sym (placed-append xs ys at))
+    subst (AllByRecursion P) (sym (placed-append xs ys at))
     (All-append P (placed_from at xs) _
-    (subst (λ l. All P (placed_from at l)) (sym s.all) (f _ s.is_struct, each_of Field P g _ (placed_of s.has_fields.each _)))
+    (subst (λ l. AllByRecursion P (placed_from at l)) (sym s.all) (f _ s.is_struct, each_of Field P g _ (placed_of s.has_fields.each _)))
     (structs_each P f g further (at + length (written xs))))
 
 -- what holds of each record of functions
@@ -38,20 +38,20 @@ record EachPart (P : At → Type 0) : Type 0 where
   pub local : (r : At) → Is Local r.1 → P r
   pub line : (r : At) → Is Code r.1 → P r
 
-functions_each : (P : At → Type 0) → EachPart P → {n : ℕ} {xs : List Shown} → Rows FunctionRow n xs → (at : ℕ) → All P (placed_from at xs)
+functions_each : (P : At → Type 0) → EachPart P → {n : ℕ} {xs : List Shown} → Rows FunctionRow n xs → (at : ℕ) → AllByRecursion P (placed_from at xs)
 unfolding placed_from
 functions_each P e no_more at = tt
 functions_each P e (and {xs = xs} {ys = ys} f further) at =
-    subst (All P) (sym (placed-append xs ys at))
+    subst (AllByRecursion P) (sym (placed-append xs ys at))
     (All-append P (placed_from at xs) _
-    (subst (λ l. All P (placed_from at l)) (sym f.all) (e.head _ f.is_function, parts f _))
+    (subst (λ l. AllByRecursion P (placed_from at l)) (sym f.all) (e.head _ f.is_function, parts f _))
     (functions_each P e further (at + length (written xs))))
   where
-    parts : {zs : List Shown} (f : FunctionRow zs) (at : ℕ) → All P (placed_from at (f.params ++ (f.results ++ (f.locals ++ f.code))))
+    parts : {zs : List Shown} (f : FunctionRow zs) (at : ℕ) → AllByRecursion P (placed_from at (f.params ++ (f.results ++ (f.locals ++ f.code))))
     parts f at =
-        subst (All P) (sym (placed-append f.params _ at)) (All-append P _ _ (each_of Param P e.param _ (placed_of f.has_params.each at))
-        (subst (All P) (sym (placed-append f.results _ _)) (All-append P _ _ (each_of Answer P e.result _ (placed_of f.has_results.each _))
-        (subst (All P) (sym (placed-append f.locals _ _)) (All-append P _ _ (each_of Local P e.local _ (placed_of f.has_locals.each _)) (each_of Code P e.line _ (placed_of f.has_code.each _)))))))
+        subst (AllByRecursion P) (sym (placed-append f.params _ at)) (All-append P _ _ (each_of Param P e.param _ (placed_of f.has_params.each at))
+        (subst (AllByRecursion P) (sym (placed-append f.results _ _)) (All-append P _ _ (each_of Answer P e.result _ (placed_of f.has_results.each _))
+        (subst (AllByRecursion P) (sym (placed-append f.locals _ _)) (All-append P _ _ (each_of Local P e.local _ (placed_of f.has_locals.each _)) (each_of Code P e.line _ (placed_of f.has_code.each _)))))))
 
 none_there : (k : ℕ) (rs : List At) → Without k rs → (up_to k rs ≡ rs) × (sections k rs ≡ [])
 unfolding up_to sections
@@ -59,7 +59,7 @@ none_there k rs h =
     let t = through k rs [] h in
     (ap (up_to k) (sym (append-nil rs)) ∙ t.0 ∙ append-nil rs, ap (sections k) (sym (append-nil rs)) ∙ t.1)
 
-quiet : {X : Type 0} (say : At → List X) (k : ℕ) (rs : List At) → Without k rs → All (λ r. say r ≡ []) rs → Behind say k rs
+quiet : {X : Type 0} (say : At → List X) (k : ℕ) (rs : List At) → Without k rs → AllByRecursion (λ r. say r ≡ []) rs → Behind say k rs
 quiet say k rs w s = record { quiet = ap (flat_map say) (none_there k rs w).0 ∙ silent say rs s }
 
 number_kept : (rs : List At) (n : ℕ) → Without 0x01 rs → number_from n rs ≡ n
@@ -114,7 +114,7 @@ module _ {n : ℕ} {xs : List Shown} (fs : Rows FunctionRow n xs) (at : ℕ) whe
     line = λ r i. other_part 0x02 i refl;
   })
 
-  no_field_in : All (λ r. field_in r ≡ []) (placed_from at xs)
+  no_field_in : AllByRecursion (λ r. field_in r ≡ []) (placed_from at xs)
   no_field_in = functions_each (λ r. field_in r ≡ []) (record {
     head = λ r i. names-none r (0x03 ∷ []) i refl refl;
     param = λ r i. names-none r (0x03 ∷ []) i refl refl;

@@ -1,7 +1,7 @@
 -- How many parts the structs and functions of a module have.
 use Rattle.std.proofs.Common.{◌≡◌, ℕ, suc, ◌+◌, ◌≤◌, true, false, eqb, List, [], ◌∷◌, ◌++◌, length, sym, refl, ap, ◌∙◌, subst, append_assoc, append-nil, arith, length-append}
 use Rattle.std.proofs.ByRecursion.{All-append}
-use Rattle.std.specs.List.{flat_map, AllByRecursion as All}
+use Rattle.std.specs.List.{flat_map, AllByRecursion}
 use Rattle.bytecode.specs.Records.{Shown, bytes_of}
 use Rattle.codec.specs.Readable.{written}
 use Rattle.codec.specs.Walking.{At}
@@ -18,11 +18,11 @@ joined-append say [] qs = refl
 joined-append say (r ∷ rs) qs = ap (λ l. say r ++ l) (joined-append say rs qs) ∙ sym (append_assoc (say r) (flat_map say rs) (flat_map say qs))
 
 -- records that say nothing, and one thing each
-pub silent : {X : Type 0} (say : At → List X) (rs : List At) → All (λ r. say r ≡ []) rs → flat_map say rs ≡ []
+pub silent : {X : Type 0} (say : At → List X) (rs : List At) → AllByRecursion (λ r. say r ≡ []) rs → flat_map say rs ≡ []
 silent say [] h = refl
 silent say (r ∷ rs) h = let e = h.0 in rw e (silent say rs h.1)
 
-one_each : {X : Type 0} (say : At → List X) (rs : List At) → All (λ r. length (say r) ≡ 1) rs → length (flat_map say rs) ≡ length rs
+one_each : {X : Type 0} (say : At → List X) (rs : List At) → AllByRecursion (λ r. length (say r) ≡ 1) rs → length (flat_map say rs) ≡ length rs
 one_each say [] h = refl
 one_each say (r ∷ rs) h =
     let ih = one_each say rs h.1 in
@@ -45,7 +45,7 @@ placed-length (x ∷ xs) at = ap suc (placed-length xs (at + length (bytes_of x)
 
 -- records of one part
 abbrev pub Of : Part → List At → Type 0
-Of part rs = All (λ r. Is part r.1) rs
+Of part rs = AllByRecursion (λ r. Is part r.1) rs
 
 pub placed_of : {part : Part} {xs : List Shown} → Each part xs → (at : ℕ) → Of part (placed_from at xs)
 unfolding placed_from
@@ -53,13 +53,13 @@ placed_of none at = tt
 placed_of (more {x = x} i further) at = (i, placed_of further (at + length (bytes_of x)))
 
 -- what holds of each record of a part
-pub each_of : (part : Part) (P : At → Type 0) → ((r : At) → Is part r.1 → P r) → (rs : List At) → Of part rs → All P rs
+pub each_of : (part : Part) (P : At → Type 0) → ((r : At) → Is part r.1 → P r) → (rs : List At) → Of part rs → AllByRecursion P rs
 each_of part P f [] h = tt
 each_of part P f (r ∷ rs) h = (f r h.0, each_of part P f rs h.1)
 
 -- records of which none is of a kind
 abbrev pub Without : ℕ → List At → Type 0
-Without k rs = All (λ r. is_kind k r ≡ false) rs
+Without k rs = AllByRecursion (λ r. is_kind k r ≡ false) rs
 
 without : (part : Part) (k : ℕ) (rs : List At) → same (part_of k) part ≡ false → Of part rs → Without k rs
 without part k rs other h = each_of part (λ r. is_kind k r ≡ false) (λ r i. other_part k i other) rs h
@@ -98,7 +98,7 @@ own say k rs qs b = joined-append say rs (up_to k qs) ∙ ap (λ l. flat_map say
 
 pub record Structs (n : ℕ) (rs : List At) : Type 0 where
   pub few : length (sections 0x02 rs) ≤ n
-  pub sized : All (λ s. SizedStruct (struct_of s)) (sections 0x02 rs)
+  pub sized : AllByRecursion (λ s. SizedStruct (struct_of s)) (sections 0x02 rs)
   pub behind : Behind field_in 0x02 rs
 
 one_struct : {n : ℕ} {xs : List Shown} (at : ℕ) (qs : List At) → StructRow xs → Structs n qs → Structs (suc n) (placed_from at xs ++ qs)
@@ -147,7 +147,7 @@ record Parts (rs : List At) : Type 0 where
   pub some_code : 1 ≤ length code
   pub few-lines : length code ≤ 128
 
-joined_same : {X : Type 0} (f g : At → List X) (rs : List At) → All (λ r. f r ≡ g r) rs → flat_map f rs ≡ flat_map g rs
+joined_same : {X : Type 0} (f g : At → List X) (rs : List At) → AllByRecursion (λ r. f r ≡ g r) rs → flat_map f rs ≡ flat_map g rs
 joined_same f g [] h = refl
 joined_same f g (r ∷ rs) h = let e = h.0 in let ih = joined_same f g rs h.1 in rw (e, ih)
 
@@ -258,7 +258,7 @@ parts_of f at =
 
 pub record Functions (n : ℕ) (rs : List At) : Type 0 where
   pub few : length (sections 0x04 rs) ≤ n
-  pub sized : All (λ s. SizedFunction (function_of s)) (sections 0x04 rs)
+  pub sized : AllByRecursion (λ s. SizedFunction (function_of s)) (sections 0x04 rs)
   pub no_params : Behind param_in 0x04 rs
   pub no_results : Behind result_in 0x04 rs
   pub no_locals : Behind local_in 0x04 rs

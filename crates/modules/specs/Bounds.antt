@@ -1,6 +1,6 @@
 -- What every module that can be read keeps to.
 use Rattle.std.specs.Prelude.{◌≡◌, ℕ, ◌<◌, ◌≤◌, List, ◌++◌, length, Ok}
-use Rattle.std.specs.List.{AllByRecursion as All}
+use Rattle.std.specs.List.{AllByRecursion}
 use Rattle.codec.specs.Reading.{read_module}
 use Rattle.modules.specs.declared.parts.Typed.{Typed}
 use Rattle.modules.specs.Modules.{StructDefinition, FunctionDefinition, Module, module_in}
@@ -22,7 +22,7 @@ pub record SizedFunction (f : FunctionDefinition) : Type 0 where
 
 -- places inside n bytes
 abbrev pub TypesInside : ℕ → List Typed → Type 0
-TypesInside n ts = All (λ t. t.place < n) ts
+TypesInside n ts = AllByRecursion (λ t. t.place < n) ts
 
 pub record StructInside (n : ℕ) (s : StructDefinition) : Type 0 where
   pub place : s.place < n
@@ -33,21 +33,21 @@ pub record FunctionInside (n : ℕ) (f : FunctionDefinition) : Type 0 where
   pub params : TypesInside n f.params
   pub results : TypesInside n f.results
   pub locals : TypesInside n f.locals
-  pub code : All (λ l. l.place < n) f.code
+  pub code : AllByRecursion (λ l. l.place < n) f.code
 
 -- a module of n bytes
 pub record Bounded (n : ℕ) (m : Module) : Type 0 where
   pub numbered : 1 ≤ m.number
   pub few_structs : length m.structs ≤ 8
-  pub structs : All SizedStruct m.structs
-  pub struct_places : All (StructInside n) m.structs
+  pub structs : AllByRecursion SizedStruct m.structs
+  pub struct_places : AllByRecursion (StructInside n) m.structs
   pub few_functions : length m.functions ≤ 16
-  pub functions : All SizedFunction m.functions
-  pub function_places : All (FunctionInside n) m.functions
+  pub functions : AllByRecursion SizedFunction m.functions
+  pub function_places : AllByRecursion (FunctionInside n) m.functions
 
 abbrev pub ReadableModulesAreBounded : Type 0
 ReadableModulesAreBounded = (bs : List ℕ) (n : ℕ) → read_module bs ≡ Ok n → Bounded (length bs) (module_in bs)
 
 -- the number of any module, readable or not, has two bytes
 abbrev pub ModuleNumbersFit : Type 0
-ModuleNumbersFit = (bs : List ℕ) → All (λ b. b < 256) bs → (module_in bs).number < 65536
+ModuleNumbersFit = (bs : List ℕ) → AllByRecursion (λ b. b < 256) bs → (module_in bs).number < 65536

@@ -1,6 +1,6 @@
 -- What is inside a type, and what is not.
 use Rattle.std.proofs.Common.{◌≡◌, Bool, true, false, List, [], ◌∷◌, Some, None, Option, refl, ◌∙◌, arith}
-use Rattle.std.specs.List.{AllByRecursion as All}
+use Rattle.std.specs.List.{AllByRecursion}
 use Rattle.std.proofs.ByRecursion.{All-weaker}
 use Rattle.operands.specs.declared.numbers.TypeRef.{TypeRef}
 use Rattle.types.specs.declared.abilities.Abilities.{Abilities}
@@ -22,7 +22,7 @@ inside-primitive T tab S l p = inside_undeclared T tab S (primitive_undeclared t
 pub inside_no_struct : NothingInsideWhatIsNoStruct
 inside_no_struct tab T S = (inside_unknown T tab S, inside-primitive T tab S)
 
-all_so : {P : TypeRef → Type 0} → ((f : TypeRef) → P f) → (fs : List TypeRef) → All P fs
+all_so : {P : TypeRef → Type 0} → ((f : TypeRef) → P f) → (fs : List TypeRef) → AllByRecursion P fs
 all_so h [] = tt
 all_so h (f ∷ fs) = (h f, all_so h fs)
 

@@ -1,7 +1,7 @@
 -- What a type comes to by a table, one declaration at a time.
 use Rattle.std.proofs.Common.{◌≡◌, ℕ, ◌+◌, true, false, List, [], ◌∷◌, ◌++◌, length, None, sym, refl, ap, ◌∙◌, ap₂, ⊎_elim, append_assoc, arith, length-append}
 use mathlib.Core.List.{flat_map}
-use Rattle.std.specs.List.{AllByRecursion as All}
+use Rattle.std.specs.List.{AllByRecursion}
 use Rattle.std.proofs.lemmas.List.Sums.{sum_by-cons}
 use Rattle.std.proofs.lemmas.Bool.{cond-true, cond-false, cases_Bool}
 use Rattle.operands.specs.declared.numbers.TypeRef.{TypeRef}
@@ -51,11 +51,11 @@ pub joined-append : (f : TypeRef → List TypeRef) (ts us : List TypeRef) → jo
 joined-append f [] us = refl
 joined-append f (t ∷ ts) us = rw append_assoc (ap (λ ws. f t ++ ws) (joined-append f ts us))
 
-pub total_alike : (ts : List TypeRef) (f g : TypeRef → ℕ) → All (λ t. f t ≡ g t) ts → total f ts ≡ total g ts
+pub total_alike : (ts : List TypeRef) (f g : TypeRef → ℕ) → AllByRecursion (λ t. f t ≡ g t) ts → total f ts ≡ total g ts
 total_alike [] f g e = refl
 total_alike (t ∷ ts) f g e = ap₂ ◌+◌ e.0 (total_alike ts f g e.1)
 
-pub joined_alike : (ts : List TypeRef) (f g : TypeRef → List TypeRef) → All (λ t. f t ≡ g t) ts → joined f ts ≡ joined g ts
+pub joined_alike : (ts : List TypeRef) (f g : TypeRef → List TypeRef) → AllByRecursion (λ t. f t ≡ g t) ts → joined f ts ≡ joined g ts
 joined_alike [] f g e = refl
 joined_alike (t ∷ ts) f g e = ap₂ ◌++◌ e.0 (joined_alike ts f g e.1)
 
@@ -63,7 +63,7 @@ pub length-joined : (f : TypeRef → List TypeRef) (ts : List TypeRef) → lengt
 length-joined f [] = refl
 length-joined f (t ∷ ts) = let ih = length-joined f ts in simp length-append (omega arith)
 
-pub total_zero : (f : TypeRef → ℕ) (ts : List TypeRef) → All (λ t. f t ≡ 0) ts → total f ts ≡ 0
+pub total_zero : (f : TypeRef → ℕ) (ts : List TypeRef) → AllByRecursion (λ t. f t ≡ 0) ts → total f ts ≡ 0
 total_zero f [] e = refl
 total_zero f (t ∷ ts) e = let a = e.0 in let b = total_zero f ts e.1 in omega arith
 

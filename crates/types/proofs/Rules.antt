@@ -1,6 +1,6 @@
 -- Tests say what the rules of abilities and structs say.
 use Rattle.std.proofs.Common.{◌≡◌, Bool, true, List, ◌∷◌, Decides, refl, arith}
-use Rattle.std.specs.List.{AllByRecursion as All}
+use Rattle.std.specs.List.{AllByRecursion}
 use Rattle.std.proofs.ByRecursion.{Decides-by_and}
 use Rattle.operands.specs.declared.numbers.TypeRef.{TypeRef}
 use Rattle.types.specs.Abilities.{allows}
@@ -16,7 +16,7 @@ abilities_tell n h = grind arith
 pub allows_allowed : AllowsAsAllowed
 allows_allowed s f = (λ e. record { copies = λ h. grind arith; drops = λ h. grind arith; stores = λ h. grind arith; keeps = λ h. grind arith }, λ a. grind arith)
 
-decides_each : (p : TypeRef → Bool) (ts : List TypeRef) → Decides (each p ts) (All (λ t. p t ≡ true) ts)
+decides_each : (p : TypeRef → Bool) (ts : List TypeRef) → Decides (each p ts) (AllByRecursion (λ t. p t ≡ true) ts)
 decides_each p ts = Decides-by_and p (λ t. p t ≡ true) (each p) (λ t. (λ e. e, λ e. e)) refl (λ t ts. refl) ts
 
 pub fit_decides : (d : Decl) (tab : Table) → Decides (fields_fit d tab) (FieldsFit d tab)

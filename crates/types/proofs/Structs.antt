@@ -1,6 +1,6 @@
 -- A declared struct over the whole table: it is made of its fields, and keeps the rule that it was declared by.
 use Rattle.std.proofs.Common.{◌≡◌, ℕ, ◌+◌, Bool, true, false, cond, List, [], ◌∷◌, length, Some, sym, ap, ◌∙◌, arith}
-use Rattle.std.specs.List.{AllByRecursion as All}
+use Rattle.std.specs.List.{AllByRecursion}
 use Rattle.std.proofs.ByRecursion.{All-weaker}
 use Rattle.operands.specs.declared.numbers.TypeRef.{TypeRef}
 use Rattle.types.specs.Abilities.{allows}
@@ -28,7 +28,7 @@ origin (x ∷ tab) l t d e = go (origin tab l.1 t d) (same_type x.ty t) e
         let o = ih y in
         record { before = o.before; sound = o.sound; since = grows_then _ tab _ o.since (grows_one x tab (sound_unknown x tab l.0)) }
 
-all_grown : {P Q : TypeRef → Type 0} (tab : Table) → ((f : TypeRef) → Known tab f → P f → Q f) → (fs : List TypeRef) → All (Known tab) fs → All P fs → All Q fs
+all_grown : {P Q : TypeRef → Type 0} (tab : Table) → ((f : TypeRef) → Known tab f → P f → Q f) → (fs : List TypeRef) → AllByRecursion (Known tab) fs → AllByRecursion P fs → AllByRecursion Q fs
 all_grown tab h [] k p = tt
 all_grown tab h (f ∷ fs) k p = (h f k.0 p.0, all_grown tab h fs k.1 p.1)
 

@@ -1,6 +1,6 @@
 -- The words of a type are primitive, one at least, and in a lawful table at most 16.
 use Rattle.std.proofs.Common.{◌≡◌, ℕ, ◌<◌, ◌≤◌, Bool, true, false, cond, List, [], ◌∷◌, length, refl, ap, arith}
-use Rattle.std.specs.List.{AllByRecursion as All}
+use Rattle.std.specs.List.{AllByRecursion}
 use Rattle.std.proofs.ByRecursion.{All-append}
 use Rattle.operands.specs.declared.numbers.TypeRef.{TypeRef}
 use Rattle.types.specs.Primitives.{same_type, is_primitive}
@@ -14,7 +14,7 @@ one_word tab l t p = let u = layout_undeclared tab t (primitive_undeclared tab l
 
 -- words of primitive types
 abbrev Plain : List TypeRef → Type 0
-Plain ws = All (λ w. is_primitive w ≡ true) ws
+Plain ws = AllByRecursion (λ w. is_primitive w ≡ true) ws
 
 plain_word : (t : TypeRef) (b : Bool) → is_primitive t ≡ b → Plain (cond b (t ∷ []) [])
 plain_word t true e = (e, tt)
@@ -32,7 +32,7 @@ words_primitive =
     (λ d ds t e ih. rw (layout_here d ds t e) (plain_joined (layout ds) ih d.fields))
     (λ d ds t e ih. rw (layout_skip d ds t e) (ih t))
 
-total_pos : (f : TypeRef → ℕ) (tab : Table) → ((t : TypeRef) → Known tab t → 1 ≤ f t) → (ts : List TypeRef) → 0 < length ts → All (Known tab) ts → 1 ≤ total f ts
+total_pos : (f : TypeRef → ℕ) (tab : Table) → ((t : TypeRef) → Known tab t → 1 ≤ f t) → (ts : List TypeRef) → 0 < length ts → AllByRecursion (Known tab) ts → 1 ≤ total f ts
 total_pos f tab h [] n k = omega arith
 total_pos f tab h (t ∷ ts) n k = let a = h t k.0 in omega arith
 

@@ -1,6 +1,6 @@
 -- Structs that are sound, and for each part of the rule one that breaks it.
 use Rattle.std.specs.Prelude.{◌≡◌, ℕ, false, List, [], ◌∷◌}
-use Rattle.std.specs.List.{AllByRecursion as All}
+use Rattle.std.specs.List.{AllByRecursion}
 use Rattle.operands.specs.declared.numbers.TypeRef.{TypeRef}
 use Rattle.types.specs.Abilities.{abilities_of}
 use Rattle.types.specs.Primitives.{num}
@@ -48,7 +48,7 @@ unsound =
     ∷ []
 
 abbrev pub ExamplesAreJudgedSo : Type 0
-ExamplesAreJudgedSo = Lawful house × All (λ d. is_sound d house ≡ false) unsound
+ExamplesAreJudgedSo = Lawful house × AllByRecursion (λ d. is_sound d house ≡ false) unsound
 
 abbrev pub ExamplesMeasureSo : Type 0
 ExamplesMeasureSo = (width house hall ≡ 16) × (inside seat house hall ≡ 16) × (inside row house hall ≡ 2) × (inside ticket house hall ≡ 0)

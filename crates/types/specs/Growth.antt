@@ -1,6 +1,6 @@
 -- What stays of a type when more structs are declared.
 use Rattle.std.specs.Prelude.{◌≡◌, false, List}
-use Rattle.std.specs.List.{AllByRecursion as All}
+use Rattle.std.specs.List.{AllByRecursion}
 use Rattle.operands.specs.declared.numbers.TypeRef.{TypeRef}
 use Rattle.types.specs.Types.{Decl, Table, decl_of, layout, width, inside, abilities_in, is_known, Known}
 
@@ -18,4 +18,4 @@ Grows old new = (t : TypeRef) → Known old t → AsBefore old new t
 
 -- declarations of types that the table does not know
 abbrev pub AllNew : List Decl → Table → Type 0
-AllNew ds tab = All (λ d. is_known tab d.ty ≡ false) ds
+AllNew ds tab = AllByRecursion (λ d. is_known tab d.ty ≡ false) ds

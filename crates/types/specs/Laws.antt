@@ -1,7 +1,7 @@
 -- What holds of types by every lawful table, and of a table that grows.
 use Rattle.std.specs.Prelude.{◌≡◌, ℕ, ◌+◌, ◌<◌, ◌≤◌, Bool, true, false, List, [], ◌∷◌, ◌++◌, Some, Decides, sum_by}
 use mathlib.Core.List.{flat_map}
-use Rattle.std.specs.List.{AllByRecursion as All}
+use Rattle.std.specs.List.{AllByRecursion}
 use Rattle.operands.specs.declared.numbers.TypeRef.{TypeRef}
 use Rattle.types.specs.declared.abilities.Abilities.{Abilities}
 use Rattle.types.specs.Abilities.{none, byte_of, abilities_of, allows, Allowed}
@@ -63,7 +63,7 @@ StructIsItsFields =
     → (layout tab t ≡ joined (layout tab) d.fields) × (width tab t ≡ total (width tab) d.fields)
 
 abbrev pub WordsArePrimitive : Type 0
-WordsArePrimitive = (tab : Table) (t : TypeRef) → All (λ w. is_primitive w ≡ true) (layout tab t)
+WordsArePrimitive = (tab : Table) (t : TypeRef) → AllByRecursion (λ w. is_primitive w ≡ true) (layout tab t)
 
 abbrev pub KnownIs1To16Wide : Type 0
 KnownIs1To16Wide = (tab : Table) → Lawful tab → (t : TypeRef) → Known tab t → (1 ≤ width tab t) × (width tab t ≤ 16)

@@ -1,6 +1,6 @@
 -- Struct declarations, what a type is made of by them, and which declarations are lawful.
 use Rattle.std.specs.Prelude.{◌≡◌, ℕ, ◌+◌, ◌<◌, ◌≤◌, Bool, true, cond, not, ◌&&◌, ◌||◌, List, [], ◌∷◌, ◌++◌, length, is_some, Some, None, Option, nat_le, nat_lt}
-use Rattle.std.specs.List.{AllByRecursion as All}
+use Rattle.std.specs.List.{AllByRecursion}
 use Rattle.operands.specs.declared.numbers.TypeRef.{TypeRef}
 use Rattle.types.specs.declared.abilities.Abilities.{Abilities}
 use Rattle.types.specs.Abilities.{primitive, none, allows}
@@ -73,8 +73,8 @@ max_width = 16
 -- a struct's fields, of which there is one at least, suit its abilities and its width
 pub record FieldsFit (d : Decl) (tab : Table) : Type 0 where
   pub filled : 0 < length d.fields
-  pub known : All (Known tab) d.fields
-  pub allowed : All (λ f. allows d.abilities (abilities_in tab f) ≡ true) d.fields
+  pub known : AllByRecursion (Known tab) d.fields
+  pub allowed : AllByRecursion (λ f. allows d.abilities (abilities_in tab f) ≡ true) d.fields
   pub narrow : total (width tab) d.fields ≤ max_width
 
 -- the rule of a struct over the declarations before it: its type is of a module, whose number is not 0, and none of theirs
