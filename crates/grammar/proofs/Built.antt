@@ -141,4 +141,4 @@ pub module_taken : (xs : List Shown) → ModuleRow xs → Accepts start xs
 module_taken xs m =
     subst (Accepts start) (sym m.all)
     (next m.is_module.whole (step_to start Module m.header m.is_module refl (omega arith))
-    (structs_taken 8 m.structs m.has_structs (after start Module) m.functions m.end refl refl refl (omega arith) refl m.has_functions m.is_end_lem))
+    (structs_taken 8 m.structs m.has_structs (after start Module) m.functions m.end refl refl refl (omega arith) refl m.has_functions m.is_end))

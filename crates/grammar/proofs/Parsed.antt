@@ -264,7 +264,7 @@ module_of_lem x xs i (rest fs ss ps rs ls cs gs es all l) =
       is_module = i;
       has_structs = rows_up ss.rows 8 l.has_structs ss.each;
       has_functions = rows_up gs.rows 16 l.has_functions gs.each;
-      is_end_lem = s.is;
+      is_end = s.is;
     }
 
 pub module_parsed : (xs : List Shown) → Accepts start xs → ModuleRow xs

@@ -60,7 +60,7 @@ pub record ModuleRow (xs : List Shown) : Type 0 where
   pub is_module : Is Module header
   pub has_structs : Rows StructRow 8 structs
   pub has_functions : Rows FunctionRow 16 functions
-  pub is_end_lem : Is End end
+  pub is_end : Is End end
 
 -- a module can begin with this row
 pub record Begins (xs : List Shown) : Type 0 where

@@ -163,7 +163,7 @@ module _ {xs : List Shown} (m : ModuleRow xs) where
   structs_said : Structs 8 (structs_there ++ functions_there)
   unfolding functions_there structs_there
   structs_said =
-      structs_sized m.has_structs structs_from functions_there (behind_structs m.has_functions functions_from end_from m.end m.is_end_lem)
+      structs_sized m.has_structs structs_from functions_there (behind_structs m.has_functions functions_from end_from m.end m.is_end)
 
   sections_of_functions : sections 0x04 (placed_from 0 xs) ≡ sections 0x04 functions_there
   unfolding structs_there
@@ -174,7 +174,7 @@ module _ {xs : List Shown} (m : ModuleRow xs) where
 
   functions_said : Functions 16 functions_there
   unfolding functions_there
-  functions_said = functions_sized m.has_functions functions_from _ (end_functions end_from m.end m.is_end_lem)
+  functions_said = functions_sized m.has_functions functions_from _ (end_functions end_from m.end m.is_end)
 
   number-said : number_from 0 (placed_from 0 xs) ≡ low_first 2 m.header.1
   unfolding number_from structs_there functions_there
@@ -185,7 +185,7 @@ module _ {xs : List Shown} (m : ModuleRow xs) where
       ∙ number_kept (structs_there ++ functions_there) (low_first 2 m.header.1)
       (All-append _ structs_there functions_there
       (structs_each (λ r. is_kind 0x01 r ≡ false) (λ r i. other_part 0x01 i refl) (λ r i. other_part 0x01 i refl) m.has_structs structs_from)
-      (All-append _ (placed_from functions_from m.functions) ((end_from, m.end) ∷ []) (no_module_in m.has_functions functions_from) (end_without end_from m.end m.is_end_lem 0x01 refl)))
+      (All-append _ (placed_from functions_from m.functions) ((end_from, m.end) ∷ []) (no_module_in m.has_functions functions_from) (end_without end_from m.end m.is_end 0x01 refl)))
 
   pub module_bounded : (n : ℕ) → length (written xs) ≤ n → Bounded n (said (placed_from 0 xs))
   module_bounded n fits =
