@@ -55,10 +55,10 @@ buffer_length {bs} {old} {now} {place} g =
     ap length g.buffer ∙ simp (length-append, length-drop) (omega (arith, length-take-le place bs g.inside))
 
 -- the next record that is read is the next to write
-first_of : (bs : List ℕ) (x : Shown) (rest : List ℕ) (xs : List Shown) → Writable xs → written xs ≡ bs → read_one bs ≡ Ok (x, rest)
+read_is_next : (bs : List ℕ) (x : Shown) (rest : List ℕ) (xs : List Shown) → Writable xs → written xs ≡ bs → read_one bs ≡ Ok (x, rest)
     → (ys : List Shown) × (formed x ≡ Ok x) × (in_range x ≡ true) × Writable ys × (written ys ≡ rest)
-first_of bs x rest [] w e r = absurd (let z : ◌≡◌ {A = ℕ} 0 1 = cc in omega arith)
-first_of bs x rest (y ∷ ys) w e r =
+read_is_next bs x rest [] w e r = absurd (let z : ◌≡◌ {A = ℕ} 0 1 = cc in omega arith)
+read_is_next bs x rest (y ∷ ys) w e r =
     let read : ◌≡◌ {A = Result Read Reason} (Ok (x, rest)) (Ok (y, written ys)) = sym r ∙ ap read_one (sym e) ∙ reads_front y (written ys) w.0 in
     let pair : ◌≡◌ {A = Read} (x, rest) (y, written ys) = cc in
     let same : x ≡ y = ap (λ t. t.0) pair in
@@ -84,7 +84,7 @@ one_more bs old place x rest inside front =
 module _ {bs old now : List ℕ} {place used at : ℕ} {x : Shown} (g : Rewriting bs old now place used) (m : Met bs place at x) where
   pub fits : writing now used x ≡ Ok (used + length (bytes_of x))
   fits =
-      let f = first_of (drop place bs) x m.rest g.records g.writable g.bytes m.read in
+      let f = read_is_next (drop place bs) x m.rest g.records g.writable g.bytes m.read in
       let inside = record_inside m g.inside in
       let long = buffer_length g in
       let r = g.room in
@@ -94,7 +94,7 @@ module _ {bs old now : List ℕ} {place used at : ℕ} {x : Shown} (g : Rewritin
 
   pub onward : Rewriting bs old (filled now used x (Ok (used + length (bytes_of x)))) (place + length (bytes_of x)) (used + length (bytes_of x))
   onward =
-      let f = first_of (drop place bs) x m.rest g.records g.writable g.bytes m.read in
+      let f = read_is_next (drop place bs) x m.rest g.records g.writable g.bytes m.read in
       let s = g.same in
       record {
         same = omega arith;
