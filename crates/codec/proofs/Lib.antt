@@ -5,3 +5,4 @@ pub mod Rewriting
 pub mod RoundTrip
 pub mod Turns
 pub mod Verdict
+pub mod Walks

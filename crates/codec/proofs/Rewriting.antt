@@ -16,7 +16,7 @@ use Rattle.grammar.proofs.Steps.{Accepts, over, next, step_from}
 use Rattle.codec.specs.Readable.{written, IsModule}
 use Rattle.codec.specs.Reading.{read_module}
 use Rattle.codec.specs.RoundTrip.{rewriting}
-use Rattle.codec.proofs.Turns.{Met, left, record_inside}
+use Rattle.codec.proofs.Walks.{Met, left, record_inside}
 
 -- records that the writer takes
 abbrev Writable : List Shown → Type 0

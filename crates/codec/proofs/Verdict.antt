@@ -15,13 +15,28 @@ use Rattle.grammar.proofs.Begun.{Takes, still, takes_one_more, taken_begins, ref
 use Rattle.grammar.proofs.Built.{module_taken}
 use Rattle.grammar.proofs.Steps.{Accepts, over, next, step_open, step_number}
 use Rattle.codec.specs.Readable.{written, IsModule, Reached, Refused, too_long, no_record, surplus, no_way_on}
-use Rattle.codec.specs.Reading.{cutting, cut, no_bytes, judging, judged, read_module}
+use Rattle.codec.specs.Reading.{Cut, on_read, cutting, cut, no_bytes, judging, judged, read_module}
 use Rattle.codec.specs.RoundTrip.{only}
 use Rattle.codec.proofs.Cutting.{AllFormed, cut-written}
 use Rattle.codec.proofs.Turns.{from, some_bytes}
 
 abbrev pub Verdict : List ℕ → Result ℕ Fault → Type 0
 Verdict bs r = MatchResult r (IsModule bs) (Refused bs)
+
+-- bytes are cut so: each of the records is read, and behind the last there is none
+data Cuts : List ℕ → Cut → Type 0 where
+  none : {bs : List ℕ} {why : Reason} → read_one bs ≡ Err why → Cuts bs (record { records = []; stop = why })
+  one_more : {bs : List ℕ} {x : Read} {c : Cut} → read_one bs ≡ Ok x → Cuts x.1 c → Cuts bs (on_read (Ok x) (λ _. c))
+
+are_cut : (turns : ℕ) (bs : List ℕ) → length bs ≤ turns → Cuts bs (cutting turns bs)
+unfolding cutting
+are_cut zero [] h = none refl
+are_cut zero (b ∷ bs) h = absurd (omega arith)
+are_cut (suc turns) bs h = by (read_one bs) refl (are_cut turns)
+  where
+    by : (r : Result Read Reason) → read_one bs ≡ r → ((rest : List ℕ) → length rest ≤ turns → Cuts rest (cutting turns rest)) → Cuts bs (on_read r (cutting turns))
+    by (Err why) read further = none read
+    by (Ok x) read further = one_more read (further x.1 (omega (arith, read_length bs x read)))
 
 -- where reading stands: what was taken, and what is still to read
 record At (bs : List ℕ) (p : Progress) (n place : ℕ) (before : List Shown) (behind : List ℕ) : Type 0 where
@@ -97,41 +112,23 @@ module _ {bs : List ℕ} {p : Progress} {n place : ℕ} {before : List Shown} {b
   stops true e why r = rw e (stop_at_end (no_bytes why) why refl e r)
   stops false e why r = rw e (unread a why r e)
 
--- no bytes are left, and no turns
-spent : {bs : List ℕ} {p : Progress} {n place : ℕ} {before : List Shown} (behind : List ℕ) → At bs p n place before behind → length behind ≤ 0 → Verdict bs (judging p n place [] MissingEnd)
-spent [] a h = stops a _ refl MissingEnd refl
-spent (k ∷ rest) a h = absurd (omega arith)
-
--- the verdict on what is still to read, by what comes next
-record Further (bs : List ℕ) (turns : ℕ) : Type 0 where
-  pub verdict : {p : Progress} {n place : ℕ} {before : List Shown} {behind : List ℕ} → At bs p n place before behind → length behind ≤ turns → Verdict bs (from turns p n place behind)
-
-module _ {bs : List ℕ} {p : Progress} {n place : ℕ} {before : List Shown} {behind : List ℕ} (a : At bs p n place before behind) (turns : ℕ) (enough : length behind ≤ suc turns) (ih : Further bs turns) where
-  stepped : (x : Read) → read_one behind ≡ Ok x → (r : Result Progress Reason) → advance p x.0 ≡ r → is_end p.last ≡ false → Verdict bs (from (suc turns) p n place behind)
-  unfolding cutting judging
-  stepped x read (Err why) e going = rw (read, going, e) (untaken a x why read e going)
-  stepped x read (Ok q) e going = rw (read, going, e) (ih.verdict (taking a x q read e) (omega (arith, read_length behind x read)))
-
-  met_one : (x : Read) → read_one behind ≡ Ok x → (b : Bool) → is_end p.last ≡ b → Verdict bs (from (suc turns) p n place behind)
-  unfolding cutting judging
-  met_one x read true e = rw (read, e) (bytes_left a e (omega (arith, read_length behind x read)))
-  met_one x read false e = stepped x read (advance p x.0) refl e
-
-  turned : (r : Result Read Reason) → read_one behind ≡ r → Verdict bs (from (suc turns) p n place behind)
-  unfolding cutting judging
-  turned (Err why) read = rw read (stops a _ refl why read)
-  turned (Ok x) read = met_one x read _ refl
-
-further : (bs : List ℕ) (turns : ℕ) → Further bs turns
-unfolding cutting judging
-further bs zero = record { verdict = λ a h. spent _ a h }
-further bs (suc turns) = record { verdict = λ {p} {n} {place} {before} {behind} a h. turned a turns h (further bs turns) (read_one behind) refl }
+-- the verdict on what is still to read, by how it is cut
+verdict : {bs behind : List ℕ} {c : Cut} → Cuts behind c → {p : Progress} {n place : ℕ} {before : List Shown} → At bs p n place before behind → Verdict bs (from p n place c)
+unfolding judging
+verdict (none {why = why} read) a = stops a _ refl why read
+verdict {bs} {behind} (one_more {x = x} {c = c} read more) {p} {n} {place} {before} a = met_one _ refl _ refl (λ q took. verdict more (taking a x q read took))
+  where
+    met_one : (b : Bool) → is_end p.last ≡ b → (r : Result Progress Reason) → advance p x.0 ≡ r
+        → ((q : Progress) → advance p x.0 ≡ Ok q → Verdict bs (from q (n + 1) (place + length (bytes_of x.0)) c)) → Verdict bs (judging p n place (x.0 ∷ c.records) c.stop)
+    met_one true e r took further = rw e (bytes_left a e (omega (arith, read_length behind x read)))
+    met_one false e (Err why) took further = rw (e, took) (untaken a x why read took e)
+    met_one false e (Ok q) took further = rw (e, took) (further q took)
 
 begun : (bs : List ℕ) → length bs ≤ 4096 → At bs start 0 0 [] bs
 begun bs h = record { taken = still; bytes = refl; here = refl; count = refl; short = h }
 
 read_verdict : (b : Bool) (bs : List ℕ) → leb (length bs) 4096 ≡ b → Verdict bs (cond b (judged (cut bs)) (Err (fault TooLong 4096)))
-read_verdict true bs e = (further bs (length bs)).verdict (begun bs (leb-true (length bs) 4096 e)) (omega arith)
+read_verdict true bs e = verdict (are_cut (length bs) bs (omega arith)) (begun bs (leb-true (length bs) 4096 e))
 read_verdict false bs e = too_long (leb-false (length bs) 4096 e)
 
 -- every answer of the reader is as it says

@@ -1,7 +1,8 @@
 // A walk over the records of a module, one at a time, each with its place.
 ghost use Rattle.std.specs.Prelude.{◌≡◌, length, drop};
+ghost use Rattle.std.specs.Iterator.{YieldsFirstBy, item_count};
 ghost use Rattle.codec.specs.FirstRecord.{read_one};
-ghost use Rattle.codec.specs.Walking.{placed, shown_placed, place_after};
+ghost use Rattle.codec.specs.Walking.{placed, shown_placed, place_after, shown_at, to_come, records_in};
 
 use super::reading::read_record;
 use bytecode::{Fault, Reason, Record};
@@ -24,6 +25,7 @@ impl<'a> Walk<'a> {
     pub fn over(bytes: &'a [u8]) -> Walk<'a>
         ensures begins { result.place ≡ 0 }
         ensures over { result.«module».now ≡ bytes.now }
+        ensures gives { to_come result ≡ records_in bytes.now }
     {
         Walk {
             module: bytes,
@@ -54,5 +56,17 @@ impl<'a> Walk<'a> {
                 })
             }
         }
+    }
+}
+
+impl<'a> Iterator for Walk<'a> {
+    type Item = Placed<'a>;
+
+    ghost next_gives = { YieldsFirstBy shown_at to_come };
+
+    ghost remaining = { item_count to_come };
+
+    fn next(&mut self) -> Option<Placed<'a>> {
+        self.next_record().ok()
     }
 }

@@ -1,6 +1,7 @@
 use Rattle.std.proofs.Common.{sym, ◌∙◌, subst, arith}
 use Rattle.std.proofs.lemmas.Result.{err_from_is_err_and}
-use Rattle.codec.proofs.Turns.{Going, begins, stopped, met, refused, record_inside, onward, nothing_behind, bytes_behind, within}
+use Rattle.codec.proofs.Turns.{Going, begins, stopped, refused, onward, nothing_behind, bytes_behind, within}
+use Rattle.codec.proofs.Walks.{met, record_inside}
 use Rattle.codec.proofs.modules.judge.Goals as goal
 
 pub loop-progress-init : goal.loop-progress-init

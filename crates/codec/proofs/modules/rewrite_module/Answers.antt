@@ -1,7 +1,7 @@
 use Rattle.std.proofs.Common.{take, sym, ap, ◌∙◌, arith}
 use Rattle.std.proofs.lemmas.List.{take_at}
 use Rattle.codec.proofs.Rewriting.{begins, no_refusal, turn, at_end, whole_answer}
-use Rattle.codec.proofs.Turns.{met, record_inside}
+use Rattle.codec.proofs.Walks.{met, record_inside}
 use Rattle.codec.proofs.modules.rewrite_module.Goals as goal
 
 pub loop-placed-init : goal.loop-placed-init
