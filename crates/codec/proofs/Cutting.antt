@@ -5,7 +5,7 @@ use Rattle.bytecode.specs.Records.{Shown, formed}
 use Rattle.codec.proofs.FirstRecord.{read_length, reads_front}
 use Rattle.codec.specs.FirstRecord.{Read, read_one}
 use Rattle.codec.specs.Readable.{written}
-use Rattle.codec.specs.Reading.{Cut, on_read, cutting, cut}
+use Rattle.codec.specs.Reading.{on_read, cutting, cut}
 use Rattle.codec.specs.RoundTrip.{only}
 
 -- the turns past the bytes change nothing

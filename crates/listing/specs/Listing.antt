@@ -1,12 +1,12 @@
 -- The lines of a listing, one for each record of a module.
-use Rattle.std.specs.Prelude.{ℕ, ◌+◌, cond, List, [], ◌∷◌, ◌++◌, length, codes, decimal, ◌==◌, slice_index}
+use Rattle.std.specs.Prelude.{ℕ, cond, List, [], ◌∷◌, ◌++◌, codes, decimal, ◌==◌, slice_index}
+use Rattle.std.specs.List.{flat_map}
 use Rattle.bytecode.specs.Kinds.{length_rule}
 use Rattle.bytecode.specs.Names.{name_of}
 use Rattle.operands.specs.Operands.{low_first, type_ref, function_ref}
-use Rattle.bytecode.specs.Records.{Shown, bytes_of}
+use Rattle.bytecode.specs.Records.{Shown}
 use Rattle.operands.specs.Texts.{type_text}
-use Rattle.codec.specs.Reading.{cut}
-use Rattle.codec.specs.Walking.{At}
+use Rattle.codec.specs.Walking.{At, records_in}
 
 -- an operand of one byte: a truth value for pushbool, and a number for any other kind
 abbrev pub byte_text : ℕ → ℕ → List ℕ
@@ -38,11 +38,6 @@ record_text x = decimal x.0 ++ (codes " " ++ (name_of x.1.0 ++ operands_text x.1
 abbrev pub line_text : At → List ℕ
 line_text x = record_text x ++ (10 ∷ [])
 
--- a line for each of these records, of which the first begins at a place
-unfoldable pub lines_from : ℕ → List Shown → List ℕ
-lines_from at [] = []
-lines_from at (x ∷ xs) = line_text (at, x) ++ lines_from (at + length (bytes_of x)) xs
-
--- the records that bytes begin with
+-- a line for each of the records that bytes begin with
 abbrev pub listing : List ℕ → List ℕ
-listing bs = lines_from 0 (cut bs).records
+listing bs = flat_map line_text (records_in bs)

@@ -73,10 +73,8 @@ impl fmt::Display for Listed<'_> {
 pub fn list_records(bytes: &[u8], out: &mut String) -> io::Result<()>
     ensures { OnOk result (string_bytes out.new ≡ string_bytes out.old ++ listing bytes.now) }
 {
-    let mut walk = Walk::over(bytes);
-    while let Ok(placed) = walk.next_record() {
-        let listed = Listed(placed);
-        writeln!(out, "{listed}")?;
+    for placed in Walk::over(bytes) {
+        writeln!(out, "{}", Listed(placed))?;
     }
     Ok(())
 }

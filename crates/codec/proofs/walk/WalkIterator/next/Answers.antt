@@ -1,4 +1,3 @@
-use Rattle.std.proofs.Common.{rules}
 use Rattle.codec.proofs.Walks.{takes_first, progress}
 use Rattle.codec.proofs.walk.WalkIterator.next.Goals as goal
 
