@@ -1,11 +1,8 @@
 // How long the body of each kind of record is.
-ghost use Rattle.std.specs.Prelude.{◌≡◌};
-ghost use Rattle.bytecode.specs.Kinds.{body_length};
+ghost use Rattle.std.specs.Prelude.{◌≡◌, cond, Some, None};
+ghost use Rattle.bytecode.specs.Kinds.{body_length, known};
 
-// What the table has for a byte that is no kind.
-pub const NO_KIND: u8 = 255;
-
-// By kind byte, from 00 to FF.
+// By kind byte, from 00 to FF; 255 says that there is no such kind. One constant table of 256 bytes is a rule of the project.
 const BODY_LENGTHS: [u8; 256] = [
     0, // end
     2, // module
@@ -52,9 +49,12 @@ const BODY_LENGTHS: [u8; 256] = [
     255, 255, 255,
 ];
 
-// The length of the body that follows this kind byte, or `NO_KIND`.
-pub fn body_length(kind: u8) -> u8
-    ensures { result ≡ body_length kind }
+// The length of the body that follows this kind byte, if there is such a kind.
+pub fn body_length(kind: u8) -> Option<usize>
+    ensures { result ≡ cond (known kind) (Some (body_length kind)) None }
 {
-    BODY_LENGTHS[kind as usize]
+    match BODY_LENGTHS[kind as usize] {
+        255 => None,
+        length => Some(length as usize),
+    }
 }

@@ -5,6 +5,6 @@ mod kinds;
 mod records;
 mod refusals;
 
-pub use kinds::{NO_KIND, body_length};
+pub use kinds::body_length;
 pub use records::Record;
 pub use refusals::{Fault, Reason};

@@ -1,11 +1,10 @@
 // A record as an enum with a case for each kind, which borrows its body from the module.
-ghost use Rattle.std.specs.Prelude.{◌≡◌, ◌≤◌, Bool, length, MatchResult};
-ghost use Rattle.bytecode.specs.Kinds.{length_rule};
+ghost use Rattle.std.specs.Prelude.{◌≡◌, ◌≢◌, [], length, MatchResult};
+ghost use Rattle.bytecode.specs.declared.refusals.Reason.TheVariants.{WrongBodyLength};
 ghost use Rattle.bytecode.specs.Names.{name_of};
 ghost use Rattle.bytecode.specs.Ranges.{in_range};
 ghost use Rattle.bytecode.specs.Records.{shown, shown_ok, formed};
 
-use super::kinds::{NO_KIND, body_length};
 use super::refusals::Reason;
 use operands::module_number;
 
@@ -44,73 +43,65 @@ pub enum Record<'a> {
     Exists(&'a [u8; 1]),
 }
 
-// These bytes as an array of their length.
-fn fixed<const N: usize>(body: &[u8]) -> &[u8; N]
-    requires { length body.now ≡ N }
-    ensures { result.now ≡ body.now }
+// These bytes as the body of a kind whose bodies have `N`.
+fn fixed<const N: usize>(body: &[u8]) -> Result<&[u8; N], Reason>
+    ensures { MatchResult result (λ array. (array.now ≡ body.now) × (length body.now ≡ N)) (λ why. (why ≡ WrongBodyLength) × (length body.now ≢ N)) }
 {
-    match <&[u8; N]>::try_from(body) {
-        Ok(a) => a,
-        Err(_) => unreachable(),
+    body.as_array().ok_or(Reason::WrongBodyLength)
+}
+
+// This record, of a kind whose bodies have no byte.
+fn bare<'a>(record: Record<'a>, body: &[u8]) -> Result<Record<'a>, Reason>
+    ensures { MatchResult result (λ x. (shown x ≡ shown «record».entry) × (body.now ≡ [])) (λ why. (why ≡ WrongBodyLength) × (length body.now ≢ 0)) }
+{
+    if body.is_empty() {
+        Ok(record)
+    } else {
+        Err(Reason::WrongBodyLength)
     }
 }
 
-// The record of this kind, over a body that has its length.
-fn named<'a>(kind: u8, body: &'a [u8]) -> Result<Record<'a>, Reason>
-    requires body_len { length body.now ≡ length_rule kind }
-    requires kind_bound { length_rule kind ≤ 254 }
-    ensures { MatchResult result (λ x. shown x ≡ (kind, body.now)) (λ _. ⊥) }
-{
-    let record = match kind {
-        0x00 => Record::End,
-        0x01 => Record::Module(fixed(body)),
-        0x02 => Record::Struct(fixed(body)),
-        0x03 => Record::Field(fixed(body)),
-        0x04 => Record::Function(fixed(body)),
-        0x05 => Record::Param(fixed(body)),
-        0x06 => Record::Result(fixed(body)),
-        0x07 => Record::Local(fixed(body)),
-        0x10 => Record::PushBool(fixed(body)),
-        0x11 => Record::PushNum(fixed(body)),
-        0x12 => Record::PushAddr(fixed(body)),
-        0x13 => Record::Sender,
-        0x14 => Record::Pop,
-        0x15 => Record::CopyLoc(fixed(body)),
-        0x16 => Record::MoveLoc(fixed(body)),
-        0x17 => Record::StLoc(fixed(body)),
-        0x18 => Record::Add,
-        0x19 => Record::Sub,
-        0x1a => Record::Mul,
-        0x1d => Record::Lt,
-        0x1e => Record::Eq,
-        0x22 => Record::Jump(fixed(body)),
-        0x23 => Record::JumpIf(fixed(body)),
-        0x24 => Record::Call(fixed(body)),
-        0x25 => Record::Ret,
-        0x26 => Record::Abort,
-        0x27 => Record::Pack(fixed(body)),
-        0x28 => Record::Unpack(fixed(body)),
-        0x29 => Record::MoveTo(fixed(body)),
-        0x2a => Record::MoveFrom(fixed(body)),
-        0x2b => Record::Exists(fixed(body)),
-        _ => unreachable(),
-    };
-    Ok(record)
-}
-
 impl<'a> Record<'a> {
-    // The record of this kind with this body.
+    // The record of this kind with this body. The kind is a module's byte, which may be any; `Record` is itself the enum of kinds.
+    #[tactic(auto, unfolding(crate::specs::Kinds::body_length))]
     pub fn of(kind: u8, body: &'a [u8]) -> Result<Record<'a>, Reason>
         ensures { shown_ok result ≡ formed (kind, body.now) }
     {
-        let n = body_length(kind);
-        if n == NO_KIND {
-            return Err(Reason::UnknownKind);
-        }
-        if body.len() != n as usize {
-            return Err(Reason::WrongBodyLength);
-        }
-        named(kind, body)
+        let record = match kind {
+            0x00 => bare(Record::End, body)?,
+            0x01 => Record::Module(fixed(body)?),
+            0x02 => Record::Struct(fixed(body)?),
+            0x03 => Record::Field(fixed(body)?),
+            0x04 => Record::Function(fixed(body)?),
+            0x05 => Record::Param(fixed(body)?),
+            0x06 => Record::Result(fixed(body)?),
+            0x07 => Record::Local(fixed(body)?),
+            0x10 => Record::PushBool(fixed(body)?),
+            0x11 => Record::PushNum(fixed(body)?),
+            0x12 => Record::PushAddr(fixed(body)?),
+            0x13 => bare(Record::Sender, body)?,
+            0x14 => bare(Record::Pop, body)?,
+            0x15 => Record::CopyLoc(fixed(body)?),
+            0x16 => Record::MoveLoc(fixed(body)?),
+            0x17 => Record::StLoc(fixed(body)?),
+            0x18 => bare(Record::Add, body)?,
+            0x19 => bare(Record::Sub, body)?,
+            0x1a => bare(Record::Mul, body)?,
+            0x1d => bare(Record::Lt, body)?,
+            0x1e => bare(Record::Eq, body)?,
+            0x22 => Record::Jump(fixed(body)?),
+            0x23 => Record::JumpIf(fixed(body)?),
+            0x24 => Record::Call(fixed(body)?),
+            0x25 => bare(Record::Ret, body)?,
+            0x26 => bare(Record::Abort, body)?,
+            0x27 => Record::Pack(fixed(body)?),
+            0x28 => Record::Unpack(fixed(body)?),
+            0x29 => Record::MoveTo(fixed(body)?),
+            0x2a => Record::MoveFrom(fixed(body)?),
+            0x2b => Record::Exists(fixed(body)?),
+            _ => return Err(Reason::UnknownKind),
+        };
+        Ok(record)
     }
 
     pub fn kind(&self) -> u8

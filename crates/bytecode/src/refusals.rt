@@ -1,6 +1,6 @@
 // What the reader and the writer refuse, with the numbers that users see.
 ghost use Rattle.std.specs.Prelude.{◌≡◌, Some};
-ghost use Rattle.bytecode.specs.Refusals.{number};
+ghost use Rattle.bytecode.specs.Refusals.{number, fault};
 ghost use Rattle.bytecode.specs.Texts.{reason_text, fault_text};
 
 use std::fmt;
@@ -20,6 +20,16 @@ pub enum Reason {
 }
 
 impl Reason {
+    // This refusal at that place.
+    pub fn at(self, place: usize) -> Fault
+        ensures { result ≡ fault self place }
+    {
+        Fault {
+            reason: self,
+            place,
+        }
+    }
+
     // The refusal's number, by which users know it.
     pub fn number(self) -> u8
         ensures { result ≡ number self }
@@ -55,6 +65,7 @@ impl Reason {
     }
 }
 
+// By hand, as every Display here: thiserror's derive writes one with no contract, and this text is proved.
 impl fmt::Display for Reason {
     ghost output = { λ x. Some (reason_text x) };
 

@@ -6,19 +6,20 @@ ghost use Rattle.operands.specs.Texts.{type_text};
 use std::fmt;
 
 // A type, by a module's number and an index there. In module 0, bool, num and address are 0, 1 and 2; in any other the index counts structs.
-#[derive(Clone, Copy)]
+#[derive(Clone, Copy, Debug, PartialEq, Eq)]
 pub struct TypeRef {
     pub module: u16,
     pub index: u8,
 }
 
 // A function, by its module and its index there.
-#[derive(Clone, Copy)]
+#[derive(Clone, Copy, Debug, PartialEq, Eq)]
 pub struct FunctionRef {
     pub module: u16,
     pub function: u8,
 }
 
+// Beside the two below no generic one is plainer: the library has `from_le_bytes` at each width by itself, and a bound for it would be longer than both.
 pub fn module_number(body: &[u8; 2]) -> u16
     ensures { result ≡ low_first 2 body.now }
 {
@@ -31,10 +32,10 @@ pub fn word(body: &[u8; 8]) -> u64
     u64::from_le_bytes(*body)
 }
 
-impl TypeRef {
-    pub fn of(body: &[u8; 3]) -> TypeRef
-        ensures { result ≡ type_ref body.now }
-    {
+impl From<&[u8; 3]> for TypeRef {
+    ghost from_gives = { λ body t. t ≡ type_ref body.now };
+
+    fn from(body: &[u8; 3]) -> TypeRef {
         let [low, high, index] = *body;
         TypeRef {
             module: u16::from_le_bytes([low, high]),
@@ -43,10 +44,10 @@ impl TypeRef {
     }
 }
 
-impl FunctionRef {
-    pub fn of(body: &[u8; 3]) -> FunctionRef
-        ensures { result ≡ function_ref body.now }
-    {
+impl From<&[u8; 3]> for FunctionRef {
+    ghost from_gives = { λ body f. f ≡ function_ref body.now };
+
+    fn from(body: &[u8; 3]) -> FunctionRef {
         let [low, high, function] = *body;
         FunctionRef {
             module: u16::from_le_bytes([low, high]),
