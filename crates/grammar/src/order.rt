@@ -6,7 +6,7 @@ ghost use Rattle.grammar.specs.Order.{part_of, may_follow, most, had, counting, 
 use bytecode::{Reason, Record};
 
 // The parts of a module, of which each record is one. `Start` is before the first record, and every instruction is `Code`.
-#[derive(Clone, Copy)]
+#[derive(Clone, Copy, Debug, PartialEq, Eq)]
 pub enum Part {
     Start,
     Module,
@@ -20,10 +20,10 @@ pub enum Part {
     End,
 }
 
-impl Part {
-    fn of(record: &Record) -> Part
-        ensures { result ≡ part_of (shown «record».now).0 }
-    {
+impl From<&Record<'_>> for Part {
+    ghost from_gives = { λ x part. part ≡ part_of (shown x.now).0 };
+
+    fn from(record: &Record<'_>) -> Part {
         match record {
             Record::Module(_) => Part::Module,
             Record::Struct(_) => Part::Struct,
@@ -36,7 +36,9 @@ impl Part {
             _ => Part::Code,
         }
     }
+}
 
+impl Part {
     fn may_follow(self, last: Part) -> bool
         ensures { result ≡ may_follow last self }
     {
@@ -75,7 +77,7 @@ impl Part {
 }
 
 // What matters of the records so far.
-#[derive(Clone, Copy)]
+#[derive(Clone, Copy, Debug, PartialEq, Eq)]
 pub struct Progress {
     // the part of the last record
     last: Part,
@@ -104,7 +106,7 @@ impl Progress {
             Part::Struct => self.structs,
             Part::Function => self.functions,
             Part::Param => self.params,
-            _ if self.last as u8 == part as u8 => self.count,
+            _ if self.last == part => self.count,
             Part::Local => self.params,
             _ => 0,
         }
@@ -113,14 +115,14 @@ impl Progress {
     pub fn is_over(self) -> bool
         ensures { result ≡ is_end self.last }
     {
-        matches!(self.last, Part::End)
+        self.last == Part::End
     }
 
     // The progress with this record, or why it may not come here.
     pub fn with(self, record: &Record) -> Result<Progress, Reason>
         ensures { result ≡ advance self (shown «record».now) }
     {
-        let part = Part::of(record);
+        let part = Part::from(record);
         if !part.may_follow(self.last) {
             return Err(Reason::OutOfOrder);
         }
@@ -138,22 +140,26 @@ impl Progress {
     fn counting(self, part: Part, count: u16) -> Progress
         ensures { result ≡ counting self part count }
     {
-        Progress {
+        let next = Progress {
             last: part,
             count,
-            structs: match part {
-                Part::Struct => count,
-                _ => self.structs,
+            ..self
+        };
+        match part {
+            Part::Struct => Progress {
+                structs: count,
+                ..next
             },
-            functions: match part {
-                Part::Function => count,
-                _ => self.functions,
+            Part::Function => Progress {
+                functions: count,
+                params: 0,
+                ..next
             },
-            params: match part {
-                Part::Function => 0,
-                Part::Param => count,
-                _ => self.params,
+            Part::Param => Progress {
+                params: count,
+                ..next
             },
+            _ => next,
         }
     }
 }

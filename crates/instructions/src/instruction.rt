@@ -7,7 +7,7 @@ use bytecode::Record;
 use operands::{FunctionRef, word};
 
 // A local, a target and an own struct are numbers that count from 0.
-#[derive(Clone, Copy)]
+#[derive(Clone, Copy, Debug, PartialEq, Eq)]
 pub enum Instruction {
     PushBool(bool),
     PushNum(u64),
@@ -35,35 +35,35 @@ pub enum Instruction {
 }
 
 impl Instruction {
-    // The instruction that a record is, if it is one.
+    // The instruction that a record is, if it is one. No `TryFrom`, since a record that is none is no error.
     pub fn of(record: &Record) -> Option<Instruction>
         ensures { result ≡ instruction_of (shown «record».now) }
     {
-        match record {
-            Record::PushBool([flag]) => Some(Instruction::PushBool(*flag == 1)),
-            Record::PushNum(body) => Some(Instruction::PushNum(word(body))),
-            Record::PushAddr(body) => Some(Instruction::PushAddr(word(body))),
-            Record::Sender => Some(Instruction::Sender),
-            Record::Pop => Some(Instruction::Pop),
-            Record::CopyLoc([local]) => Some(Instruction::CopyLoc(*local)),
-            Record::MoveLoc([local]) => Some(Instruction::MoveLoc(*local)),
-            Record::StLoc([local]) => Some(Instruction::StLoc(*local)),
-            Record::Add => Some(Instruction::Add),
-            Record::Sub => Some(Instruction::Sub),
-            Record::Mul => Some(Instruction::Mul),
-            Record::Lt => Some(Instruction::Lt),
-            Record::Eq => Some(Instruction::Eq),
-            Record::Jump([target]) => Some(Instruction::Jump(*target)),
-            Record::JumpIf([target]) => Some(Instruction::JumpIf(*target)),
-            Record::Call(body) => Some(Instruction::Call(FunctionRef::of(body))),
-            Record::Ret => Some(Instruction::Ret),
-            Record::Abort => Some(Instruction::Abort),
-            Record::Pack([index]) => Some(Instruction::Pack(*index)),
-            Record::Unpack([index]) => Some(Instruction::Unpack(*index)),
-            Record::MoveTo([index]) => Some(Instruction::MoveTo(*index)),
-            Record::MoveFrom([index]) => Some(Instruction::MoveFrom(*index)),
-            Record::Exists([index]) => Some(Instruction::Exists(*index)),
-            _ => None,
-        }
+        Some(match record {
+            Record::PushBool([flag]) => Instruction::PushBool(*flag == 1),
+            Record::PushNum(body) => Instruction::PushNum(word(body)),
+            Record::PushAddr(body) => Instruction::PushAddr(word(body)),
+            Record::Sender => Instruction::Sender,
+            Record::Pop => Instruction::Pop,
+            Record::CopyLoc([local]) => Instruction::CopyLoc(*local),
+            Record::MoveLoc([local]) => Instruction::MoveLoc(*local),
+            Record::StLoc([local]) => Instruction::StLoc(*local),
+            Record::Add => Instruction::Add,
+            Record::Sub => Instruction::Sub,
+            Record::Mul => Instruction::Mul,
+            Record::Lt => Instruction::Lt,
+            Record::Eq => Instruction::Eq,
+            Record::Jump([target]) => Instruction::Jump(*target),
+            Record::JumpIf([target]) => Instruction::JumpIf(*target),
+            Record::Call(body) => Instruction::Call(FunctionRef::from(*body)),
+            Record::Ret => Instruction::Ret,
+            Record::Abort => Instruction::Abort,
+            Record::Pack([index]) => Instruction::Pack(*index),
+            Record::Unpack([index]) => Instruction::Unpack(*index),
+            Record::MoveTo([index]) => Instruction::MoveTo(*index),
+            Record::MoveFrom([index]) => Instruction::MoveFrom(*index),
+            Record::Exists([index]) => Instruction::Exists(*index),
+            _ => return None,
+        })
     }
 }

@@ -10,11 +10,25 @@ pub struct Abilities {
     pub key: bool,
 }
 
-// Whether `a` holds only where `b` does.
+// Whether `a` holds only where `b` does. `a <= b` says the same of two bools, and is no plainer.
 fn only_if(a: bool, b: bool) -> bool
     ensures { result ≡ only_if a b }
 {
     !a || b
+}
+
+// The abilities that a struct's byte tells; bits from 16 on say nothing.
+impl From<u8> for Abilities {
+    ghost from_gives = { λ byte abilities. abilities ≡ abilities_of byte };
+
+    fn from(byte: u8) -> Abilities {
+        Abilities {
+            copy: byte & 1 != 0,
+            drop: byte & 2 != 0,
+            store: byte & 4 != 0,
+            key: byte & 8 != 0,
+        }
+    }
 }
 
 impl Abilities {
@@ -24,18 +38,6 @@ impl Abilities {
         store: true,
         key: false,
     };
-
-    // The abilities that a struct's byte tells; bits from 16 on say nothing.
-    pub fn of(byte: u8) -> Abilities
-        ensures { result ≡ abilities_of byte }
-    {
-        Abilities {
-            copy: byte & 1 != 0,
-            drop: byte & 2 != 0,
-            store: byte & 4 != 0,
-            key: byte & 8 != 0,
-        }
-    }
 
     // Whether a struct with these abilities may have a field with those.
     pub fn allow(self, field: Abilities) -> bool

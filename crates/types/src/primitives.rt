@@ -1,6 +1,6 @@
 // The primitive types: module 0 has them at its indices 0, 1 and 2, and no others.
 ghost use Rattle.std.specs.Prelude.{◌≡◌};
-ghost use Rattle.types.specs.Primitives.{same_type, is_primitive};
+ghost use Rattle.types.specs.Primitives.{is_primitive};
 
 use operands::TypeRef;
 
@@ -19,14 +19,8 @@ pub const ADDRESS: TypeRef = TypeRef {
     index: 2,
 };
 
-pub fn same_type(a: TypeRef, b: TypeRef) -> bool
-    ensures { result ≡ same_type a b }
-{
-    a.module == b.module && a.index == b.index
-}
-
 pub fn is_primitive(t: TypeRef) -> bool
     ensures { result ≡ is_primitive t }
 {
-    same_type(t, BOOL) || same_type(t, NUM) || same_type(t, ADDRESS)
+    matches!(t, BOOL | NUM | ADDRESS)
 }

@@ -8,14 +8,19 @@ ghost use Rattle.types.specs.Laws.{PrimitiveIsOneWord, StructIsItsFields, TotalI
 ghost use Rattle.types.specs.Laws.{NothingInsideWhatIsNoStruct, InsideStructIsInsideItsFields, StructIsOnceInsideItself, InsideAreDeclaredStructs};
 ghost use Rattle.types.specs.Laws.{CopyHoldsNoneWithout, DropHoldsNoneWithout, StoreHoldsNoneWithout, KeyHoldsNoneWithoutStore};
 ghost use Rattle.types.specs.Laws.{OlderTypesStay, LawfulGrowthIsNew};
-ghost use Rattle.types.specs.Primitives.{bool, num, address};
+ghost use Rattle.types.specs.Primitives.{bool, num, address, same_type};
 
 use crate::abilities::Abilities;
 use crate::primitives::{ADDRESS, BOOL, NUM};
+use operands::TypeRef;
 
 pub fn constants_are_as_defined()
     ensures types { (BOOL ≡ bool) × (NUM ≡ num) × (ADDRESS ≡ address) }
     ensures abilities { Abilities.PRIMITIVE ≡ primitive }
+{}
+
+pub fn equal_types_are_the_same()
+    ensures { (a b : TypeRef) → ⟦<TypeRef as PartialEq>⟧.eq a b ≡ same_type a b }
 {}
 
 pub fn bytes_and_abilities_tell_each_other()

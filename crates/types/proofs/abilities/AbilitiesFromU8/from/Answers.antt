@@ -3,7 +3,7 @@ use Rattle.std.proofs.Common.{◌≡◌, ℕ, zero, suc, ◌+◌, ◌-◌, ◌*�
 use lib.Bits.{bit_and, and_high}
 use Rattle.std.proofs.lemmas.Nat.{mod_below}
 use Rattle.types.specs.Abilities.{adds}
-use Rattle.types.proofs.abilities.Abilities.of.Goals as goal
+use Rattle.types.proofs.abilities.AbilitiesFromU8.from.Goals as goal
 
 set_if_added : (n k : ℕ) → 0 < 2 ^ k → not (eqb (bit_and n (2 ^ (1 + k) - 2 ^ k)) 0) ≡ adds n (2 ^ k)
 set_if_added n k p = bit (n / 2 ^ k % 2) (2 ^ k) (bit_and n (2 ^ (1 + k) - 2 ^ k)) p (and_high n 1 k) (mod_below (n / 2 ^ k) 2 (omega arith))
