@@ -1,8 +1,9 @@
 -- The search by halves: one turn of it, and where it ends among sorted rows.
-use Rattle.std.proofs.Common.{◌≡◌, ℕ, zero, suc, ◌+◌, ◌-◌, ◌/◌, ◌<◌, ◌≤◌, min, Bool, true, false, cond, List, [], ◌∷◌, ◌++◌, length, get_or, take, drop, is_some, Ok, Err, sym, refl, ap, ◌∙◌, subst, ⊎_elim, arith, length-drop, take-append-drop, length-take, get_or-drop, get_or-take, MatchResult}
-use Rattle.std.proofs.lemmas.List.{take-take, drop-drop, drop-take, drop_more, drop_all, take_all, take_rest, length-take-le}
-use Rattle.std.proofs.lemmas.Bool.{cases_Bool, cases_lt, and_parts}
-use Rattle.table.specs.Order.{Order}
+use Rattle.std.proofs.Common.{◌≡◌, ℕ, zero, suc, ◌+◌, ◌-◌, ◌/◌, ◌<◌, ◌≤◌, Bool, true, false, cond, List, [], ◌∷◌, ◌++◌, length, get_or, take, drop, is_some, Ok, Err, sym, refl, ap, ◌∙◌, subst, ⊎_elim, arith, length-drop, take-append-drop, length-take, get_or-drop, get_or-take}
+use Rattle.std.proofs.lemmas.List.{take-take, drop-drop, drop-take, drop_more, take_rest, length-take-le}
+use Rattle.std.proofs.lemmas.Bool.{cases_Bool, and_parts}
+use Rattle.std.specs.Cmp.{IsStrictWeakOrder}
+use Rattle.table.proofs.Less.{past}
 use Rattle.table.specs.Rows.{above, sorted, look, place}
 use Rattle.table.proofs.Sorting.{sorted-take, sorted-drop}
 use Rattle.table.specs.Searching.{halving, spot, hit, found, found_sorted}
@@ -152,14 +153,14 @@ module _ {R K : Type 0} (key : R → K) (before : K → K → Bool) where
   above_in k [] r rest h = (and_parts (before k (key r)) (above key before k rest) h).0
   above_in k (x ∷ xs) r rest h = above_in k xs r rest (and_parts (before k (key x)) (above key before k (xs ++ r ∷ rest)) h).1
 
-  module _ (laws : Order before) where
+  module _ (laws : IsStrictWeakOrder before) where
     -- before a record that comes before k stand only such records
     place_past : (k : K) (xs : List R) (r : R) (rest : List R) → sorted key before (xs ++ r ∷ rest) ≡ true → before (key r) k ≡ true
         → place key before k (xs ++ r ∷ rest) ≡ length xs + suc (place key before k rest)
     place_past k [] r rest s b = rw b (omega arith)
     place_past k (x ∷ xs) r rest s b =
         let p = and_parts (above key before (key x) (xs ++ r ∷ rest)) (sorted key before (xs ++ r ∷ rest)) s in
-        let t = laws.chain (key x) (key r) k (above_in (key x) xs r rest p.0) b in
+        let t = past before laws (key x) (key r) k (above_in (key x) xs r rest p.0) b in
         rw t (ap suc (place_past k xs r rest p.1 b) ∙ omega arith)
 
     -- halving ends at the key's place, where it does for fewer rows
@@ -198,34 +199,11 @@ module _ {R K : Type 0} (key : R → K) (before : K → K → Bool) where
     found_sorted_lem k rs s =
         ap (λ at. hit key before k at (drop at rs)) (spot-place k rs s) ∙ hit-place k (place key before k rs) rs
 
-  -- what a look at the row of the spot tells
-  pub hit_there : (k : K) (rs : List R) (at : ℕ) (x : R) → at < length rs → x ≡ get_or rs at x → hit key before k at (drop at rs) ≡ cond (before k (key x)) (Err at) (Ok at)
-  hit_there k rs at x h e = ap (hit key before k at) (drop_more rs at x h) ∙ ap (λ y. cond (before k (key y)) (Err at) (Ok at)) (sym e)
-
-  pub hit_past : (k : K) (rs : List R) (at : ℕ) → length rs ≤ at → hit key before k at (drop at rs) ≡ Err at
-  hit_past k rs at h = ap (hit key before k at) (drop_all at rs h)
-
   -- the search ends inside the rows, or right behind them
   halving_bound : (turns : ℕ) (k : K) (rs : List R) → halving key before turns k rs ≤ length rs
   unfolding halving
   halving_bound zero k rs = omega arith
   halving_bound (suc turns) k rs = bound_by_middle turns k rs (halving_bound turns k) (drop (length rs / 2) rs) refl
 
-  hit_bound : (k : K) (at : ℕ) (ds : List R) (n : ℕ) → at ≤ n → length ds ≡ n - at → MatchResult (hit key before k at ds) (λ i. i < n) (λ i. i ≤ n)
-  hit_bound k at [] n h e = h
-  hit_bound k at (r ∷ rest) n h e =
-      ⊎_elim
-      (λ (b : before k (key r) ≡ true). rw b h)
-      (λ (b : before k (key r) ≡ false). rw b (omega arith))
-      (cases_Bool (before k (key r)))
-
-  pub found_bound : (k : K) (rs : List R) → MatchResult (found key before k rs) (λ i. i < length rs) (λ i. i ≤ length rs)
-  found_bound k rs = hit_bound k (spot key before k rs) (drop (spot key before k rs) rs) (length rs) (halving_bound (length rs) k rs) (length-drop (spot key before k rs) rs)
-
--- a length beyond the rows counts as theirs
-pub take_min : {X : Type 0} (n : ℕ) (xs : List X) → take (min n (length xs) - 0) xs ≡ take n xs
-take_min n xs =
-    ⊎_elim
-    (λ (h : n < length xs). ap (λ m. take m xs) (omega arith))
-    (λ (h : length xs ≤ n). take_all _ xs (omega arith) ∙ sym (take_all n xs h))
-    (cases_lt n (length xs))
+  pub spot_bound : (k : K) (rs : List R) → spot key before k rs ≤ length rs
+  spot_bound k rs = halving_bound (length rs) k rs

@@ -1,4 +1,5 @@
 pub mod Found
+pub mod Less
 pub mod Halves
 pub mod Lookups
 pub mod Maps

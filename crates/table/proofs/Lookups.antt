@@ -3,6 +3,7 @@ use Rattle.std.proofs.Common.{◌≡◌, Bool, true, false, cond, ◌⊎◌, Lis
 use Rattle.std.proofs.lemmas.Bool.{cases_Bool, both_ways, and_parts}
 use Rattle.table.specs.Order.{Order}
 use Rattle.table.specs.Rows.{above, sorted, look, put, without}
+use Rattle.table.proofs.Sorting.{above_chain, head, rest}
 
 module _ {R K : Type 0} (key : R → K) (before : K → K → Bool) (laws : Order before) where
   -- two keys in one order are not in the other
@@ -27,19 +28,6 @@ module _ {R K : Type 0} (key : R → K) (before : K → K → Bool) (laws : Orde
       let p = and_parts (before k (key r)) (above key before k rs) h in
       let q = turn k (key r) p.0 in
       rw (q, p.0)
-
-  above_chain : (j k : K) (rs : List R) → before j k ≡ true → above key before k rs ≡ true → above key before j rs ≡ true
-  above_chain j k [] b h = refl
-  above_chain j k (r ∷ rs) b h =
-      let p = and_parts (before k (key r)) (above key before k rs) h in
-      let q = laws.chain j k (key r) b p.0 in
-      rw (q, above_chain j k rs b p.1)
-
-  head : (r : R) (rs : List R) → sorted key before (r ∷ rs) ≡ true → above key before (key r) rs ≡ true
-  head r rs s = (and_parts (above key before (key r) rs) (sorted key before rs) s).0
-
-  rest : (r : R) (rs : List R) → sorted key before (r ∷ rs) ≡ true → sorted key before rs ≡ true
-  rest r rs s = (and_parts (above key before (key r) rs) (sorted key before rs) s).1
 
   pub look-put-same : (x : R) (rs : List R) → look key before (key x) (put key before x rs) ≡ Some x
   look-put-same x [] = let n = laws.never (key x) in rw (n)
@@ -78,22 +66,22 @@ module _ {R K : Type 0} (key : R → K) (before : K → K → Bool) (laws : Orde
   look-without-same k [] s = refl
   look-without-same k (r ∷ rs) s =
       three (key r) k
-      (λ p q. rw (p, p) (look-without-same k rs (rest r rs s)))
+      (λ p q. rw (p, p) (look-without-same k rs (rest key before r rs s)))
       (λ p q. rw (p, q, p, q))
-      (λ e p q. rw (p, q) (look-above k rs (rw e at (head r rs s))))
+      (λ e p q. rw (p, q) (look-above k rs (rw e at (head key before r rs s))))
 
   pub look_without_other : (j k : K) (rs : List R) → sorted key before rs ≡ true → Apart j k → look key before j (without key before k rs) ≡ look key before j rs
   look_without_other j k [] s a = refl
   look_without_other j k (r ∷ rs) s a =
       three (key r) k
-      (λ p q. rw p (ap (λ z. cond (before (key r) j) z (cond (before j (key r)) None (Some r))) (look_without_other j k rs (rest r rs s) a)))
+      (λ p q. rw p (ap (λ z. cond (before (key r) j) z (cond (before j (key r)) None (Some r))) (look_without_other j k rs (rest key before r rs s) a)))
       (λ p q. rw (p, q))
       (λ e p q.
       ⊎_elim
       (λ (h : before j k ≡ true).
       let w : before j (key r) ≡ true = rw e h in
       let t = turn _ _ w in
-      rw (p, q, t, w) (look-above j rs (above_chain j (key r) rs w (head r rs s))))
+      rw (p, q, t, w) (look-above j rs (above_chain key before laws j (key r) rs w (head key before r rs s))))
       (λ (h : before k j ≡ true). let w : before (key r) j ≡ true = rw e h in rw (p, q, w))
       a)
 
@@ -117,12 +105,12 @@ module _ {R K : Type 0} (key : R → K) (before : K → K → Bool) (laws : Orde
       let some : Some x ≡ Some y = rw (nx, q, p) at (h (key x)) in
       let one : x ≡ y = cc in
       let more : xs ≡ ys =
-      same_rows xs ys (rest x xs s) (rest y ys u)
+      same_rows xs ys (rest key before x xs s) (rest key before y ys u)
       (λ k.
       three (key x) k
       (λ v w. let v2 : before (key y) k ≡ true = rw e at v in rw (v, v2) at (h k))
-      (λ v w. let w2 : before k (key y) ≡ true = rw e at w in look-above k xs (above_chain k (key x) xs w (head x xs s)) ∙ sym (look-above k ys (above_chain k (key y) ys w2 (head y ys u))))
+      (λ v w. let w2 : before k (key y) ≡ true = rw e at w in look-above k xs (above_chain key before laws k (key x) xs w (head key before x xs s)) ∙ sym (look-above k ys (above_chain key before laws k (key y) ys w2 (head key before y ys u))))
       (λ f v w.
       let f2 : key y ≡ k = sym e ∙ f in
-      look-above k xs (rw f at (head x xs s)) ∙ sym (look-above k ys (rw f2 at (head y ys u))))) in
+      look-above k xs (rw f at (head key before x xs s)) ∙ sym (look-above k ys (rw f2 at (head key before y ys u))))) in
       cc)

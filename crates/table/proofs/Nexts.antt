@@ -1,20 +1,13 @@
 -- The first record after a key, by where the key is found.
-use Rattle.std.proofs.Common.{◌≡◌, ℕ, suc, ◌<◌, ◌≤◌, Bool, true, false, List, [], ◌∷◌, length, get_or, drop, is_some, Some, None, sym, refl, ap, ◌∙◌, ⊎_elim, add-one}
-use Rattle.std.proofs.lemmas.List.{drop_more, drop_all}
+use Rattle.std.proofs.Common.{◌≡◌, suc, Bool, true, false, List, [], ◌∷◌, drop, is_some, refl, ap, ◌∙◌, ⊎_elim, add-one}
 use Rattle.std.proofs.lemmas.Bool.{both_ways, cases_Bool, and_parts}
-use Rattle.table.specs.Order.{Order}
+use Rattle.std.specs.Cmp.{IsStrictWeakOrder}
 use Rattle.table.specs.Rows.{above, sorted, look, place, next, first}
 use Rattle.table.specs.Searching.{behind_found, next_found}
 use Rattle.table.proofs.Halves.{found_sorted_lem}
-use Rattle.table.proofs.Lookups.{three}
+use Rattle.table.proofs.Less.{three_ways, above_tied}
 
-pub first_there : {R : Type 0} (rs : List R) (at : ℕ) (x : R) → at < length rs → x ≡ get_or rs at x → Some x ≡ first (drop at rs)
-first_there rs at x h e = ap Some e ∙ sym (ap first (drop_more rs at x h))
-
-pub first_past : {R : Type 0} (rs : List R) (at : ℕ) → length rs ≤ at → None ≡ first (drop at rs)
-first_past rs at h = sym (ap first (drop_all at rs h))
-
-module _ {R K : Type 0} (key : R → K) (before : K → K → Bool) (laws : Order before) where
+module _ {R K : Type 0} (key : R → K) (before : K → K → Bool) (laws : IsStrictWeakOrder before) where
   next-first : (k : K) (rs : List R) → above key before k rs ≡ true → first rs ≡ next key before k rs
   next-first k [] h = refl
   next-first k (r ∷ rs) h = rw (and_parts (before k (key r)) (above key before k rs) h).0
@@ -23,18 +16,18 @@ module _ {R K : Type 0} (key : R → K) (before : K → K → Bool) (laws : Orde
   behind-hit k [] s h = refl
   behind-hit k (r ∷ rs) s h =
       let p = and_parts (above key before (key r) rs) (sorted key before rs) s in
-      three key before laws (key r) k
+      three_ways before laws (key r) k
       (λ t u. rw (t, u) (behind-hit k rs p.1 (rw t at h)))
       (λ t u. absurd (both_ways false refl (rw (t, u) at h)))
-      (λ e t u. rw (t, u) (next-first k rs (rw e at p.0)))
+      (λ t u. rw (t, u) (next-first k rs (above_tied before laws key (key r) k rs t p.0)))
 
   at_miss : (k : K) (rs : List R) → is_some (look key before k rs) ≡ false → first (drop (place key before k rs) rs) ≡ next key before k rs
   at_miss k [] h = refl
   at_miss k (r ∷ rs) h =
-      three key before laws (key r) k
+      three_ways before laws (key r) k
       (λ t u. rw (t, u) (at_miss k rs (rw t at h)))
       (λ t u. rw (t, u))
-      (λ e t u. absurd (both_ways true (rw (t, u) at h) refl))
+      (λ t u. absurd (both_ways true (rw (t, u) at h) refl))
 
   pub next-sorted : (k : K) (rs : List R) → sorted key before rs ≡ true → next_found key before k rs ≡ next key before k rs
   next-sorted k rs s =

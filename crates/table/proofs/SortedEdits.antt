@@ -1,10 +1,10 @@
 -- Putting into sorted rows and taking out of them, by where the search ends.
-use Rattle.std.proofs.Common.{◌≡◌, ℕ, ◌+◌, ◌-◌, ◌<◌, ◌≤◌, min, Bool, true, false, cond, ltb, List, [], ◌∷◌, ◌++◌, length, take, drop, set, is_some, Some, Ok, Err, sym, refl, ap, ◌∙◌, ⊎_elim, arith, take-append-drop}
+use Rattle.std.proofs.Common.{◌≡◌, ℕ, ◌+◌, ◌-◌, ◌<◌, ◌≤◌, Bool, true, false, cond, ltb, List, [], ◌∷◌, ◌++◌, length, take, drop, set, is_some, Some, Ok, Err, sym, refl, ap, ◌∙◌, ⊎_elim, arith, take-append-drop}
 use Rattle.std.specs.List.{insert}
 use Rattle.std.proofs.lemmas.List.{length-set, set-append_left, length-take-le, take_all, drop_all}
 use Rattle.std.proofs.lemmas.Bool.{cases_Bool, cases_lt, both_ways}
 use Rattle.table.specs.Editing.{insert_answer, insert_after, remove_answer, remove_after, put_answer, put_after, take_answer, take_after}
-use Rattle.table.specs.Order.{Order}
+use Rattle.std.specs.Cmp.{IsStrictWeakOrder}
 use Rattle.table.specs.Rows.{sorted, look, put, without, place}
 use Rattle.table.specs.Searching.{found}
 use Rattle.table.proofs.Halves.{found_sorted_lem}
@@ -24,21 +24,7 @@ split_rows used old =
     append-none [] = refl
     append-none (x ∷ xs) = ap (λ l. x ∷ l) (append-none xs)
 
--- where a row is free, and where none is
-module _ {R : Type 0} (old rs : List R) where
-  pub room_answer : (at : ℕ) → ltb (length rs) (length old) ≡ true → insert_answer old rs (Err at) ≡ Ok (length rs + 1)
-  room_answer at free = rw free
-
-  pub room_after : (x : R) (at : ℕ) → ltb (length rs) (length old) ≡ true → insert_after old rs x (Err at) ≡ insert rs at x ++ drop (length rs + 1) old
-  room_after x at free = rw free
-
-  pub no_room_answer : (at : ℕ) → ltb (length rs) (length old) ≡ false → insert_answer old rs (Err at) ≡ Err (record {})
-  no_room_answer at full = rw full
-
-  pub no_room_after : (x : R) (at : ℕ) → ltb (length rs) (length old) ≡ false → insert_after old rs x (Err at) ≡ old
-  no_room_after x at full = rw full
-
-module _ {R K : Type 0} (key : R → K) (before : K → K → Bool) (laws : Order before) where
+module _ {R K : Type 0} (key : R → K) (before : K → K → Bool) (laws : IsStrictWeakOrder before) where
   place_inside : (k : K) (rs : List R) → is_some (look key before k rs) ≡ true → place key before k rs < length rs
   place_inside k [] h = absurd (both_ways false refl h)
   place_inside k (r ∷ rs) h =
@@ -103,14 +89,3 @@ module _ {R K : Type 0} (key : R → K) (before : K → K → Bool) (laws : Orde
       let g : found key before k rs ≡ Err (place key before k rs) = f ∙ rw h in
       (ap (remove_answer rs) g ∙ rw h, ap (remove_after old rs) g ∙ rw h))
       (cases_Bool (is_some (look key before k rs)))
-
--- the rows in use, where the length is cut to that of the rows
-pub clamped : {X : Type 0} (u used : ℕ) (old : List X) → u ≡ min used (length old) → (take u old ≡ take used old) × (length (take used old) ≡ u)
-clamped u used old e =
-    ⊎_elim
-    (λ (h : used < length old). let same : u ≡ used = omega arith in (ap (λ n. take n old) same, length-take-le used old (omega arith) ∙ sym same))
-    (λ (h : length old ≤ used).
-    let all : take used old ≡ old = take_all used old h in
-    let same : u ≡ length old = omega arith in
-    (take_all u old (omega arith) ∙ sym all, ap length all ∙ sym same))
-    (cases_lt used (length old))

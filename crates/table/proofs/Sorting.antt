@@ -5,10 +5,10 @@ use Rattle.table.specs.Order.{Order}
 use Rattle.table.specs.Rows.{above, sorted, put, without}
 
 module _ {R K : Type 0} (key : R → K) (before : K → K → Bool) where
-  head : (r : R) (rs : List R) → sorted key before (r ∷ rs) ≡ true → above key before (key r) rs ≡ true
+  pub head : (r : R) (rs : List R) → sorted key before (r ∷ rs) ≡ true → above key before (key r) rs ≡ true
   head r rs s = (and_parts (above key before (key r) rs) (sorted key before rs) s).0
 
-  rest : (r : R) (rs : List R) → sorted key before (r ∷ rs) ≡ true → sorted key before rs ≡ true
+  pub rest : (r : R) (rs : List R) → sorted key before (r ∷ rs) ≡ true → sorted key before rs ≡ true
   rest r rs s = (and_parts (above key before (key r) rs) (sorted key before rs) s).1
 
   pub above-without : (k q : K) (rs : List R) → above key before k rs ≡ true → above key before k (without key before q rs) ≡ true
