@@ -12,14 +12,14 @@ pub struct TypeRef {
     pub index: u8,
 }
 
-// A function, by its module and its index there.
+// A function, by its module and its index there. A type of its own, so that no `TypeRef` stands for one.
 #[derive(Clone, Copy, Debug, PartialEq, Eq)]
 pub struct FunctionRef {
     pub module: u16,
     pub function: u8,
 }
 
-// Beside the two below no generic one is plainer: the library has `from_le_bytes` at each width by itself, and a bound for it would be longer than both.
+// This and `word` stay two: `from_le_bytes` is a method of each width by itself, and a trait over it would be longer than both.
 pub fn module_number(body: &[u8; 2]) -> u16
     ensures { result ≡ low_first 2 body.now }
 {

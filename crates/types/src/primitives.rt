@@ -22,5 +22,5 @@ pub const ADDRESS: TypeRef = TypeRef {
 pub fn is_primitive(t: TypeRef) -> bool
     ensures { result ≡ is_primitive t }
 {
-    matches!(t, BOOL | NUM | ADDRESS)
+    t == BOOL || t == NUM || t == ADDRESS
 }
