@@ -1,5 +1,5 @@
 -- Records that are taken one by one begin a module, and one that is refused there goes on to none.
-use Rattle.std.proofs.Common.{◌≡◌, ℕ, ◌<◌, true, false, List, [], ◌∷◌, ◌++◌, Ok, Err, sym, refl, subst, append_assoc, append-nil, arith}
+use Rattle.std.proofs.Common.{◌≡◌, ◌<◌, true, false, List, [], ◌∷◌, ◌++◌, Ok, Err, sym, refl, subst, append_assoc, append-nil, arith}
 use Rattle.bytecode.specs.declared.refusals.Reason.{Reason}
 use Rattle.bytecode.specs.Kinds.{body_length}
 use Rattle.bytecode.specs.Records.{Shown, formed}
@@ -86,7 +86,7 @@ refused_begins_none {p} {xs} x why t refused b =
     not_next (taken_behind (x ∷ b.further) t whole) refused
   where
     not_next : {p : Progress} {x : Shown} {xs : List Shown} {why : Reason} → Accepts p (x ∷ xs) → advance p x ≡ Err why → ⊥
-    not_next (next w a further) e = let z : ◌≡◌ {A = ℕ} 0 1 = cc in omega arith
+    not_next (next w a further) e = cc
 
 -- records that are taken up to the end are a module, and no others
 pub taken_whole : {p : Progress} {xs : List Shown} → Takes start xs p → is_end p.last ≡ true → ModuleRow xs
@@ -96,4 +96,4 @@ pub taken_part : {p : Progress} {xs : List Shown} → Takes start xs p → is_en
 taken_part {p} {xs} t e m = not_over (taken_behind [] t (subst (Accepts start) (sym (append-nil xs)) (module_taken _ m))) e
   where
     not_over : {p : Progress} → Accepts p [] → is_end p.last ≡ false → ⊥
-    not_over (over y) n = let z : ◌≡◌ {A = ℕ} 0 1 = cc in omega arith
+    not_over (over y) n = cc

@@ -3,7 +3,7 @@ use Rattle.std.proofs.Common.{◌≡◌, ℕ, zero, suc, ◌+◌, ◌<◌, ◌�
 use Rattle.std.proofs.lemmas.Bool.Decides.{nat_tests}
 use Rattle.bytecode.specs.Records.{Shown}
 use Rattle.grammar.specs.declared.order.Part.{Part}
-use Rattle.grammar.specs.declared.order.Part.TheVariants.{Start, Module, Struct, Field, Function, Param, Result as Answer, Local, Code, End}
+use Rattle.grammar.specs.declared.order.Part.TheVariants.{Module, Struct, Field, Function, Param, Result as Answer, Local, Code, End}
 use Rattle.grammar.specs.declared.order.Progress.{Progress}
 use Rattle.grammar.specs.Grammar.{Is, Each, none, more, Rows, no_more, and, StructRow, FunctionRow, ModuleRow}
 use Rattle.grammar.specs.Order.{same, may_follow, most, had, after, start}
@@ -16,16 +16,7 @@ afters part (suc n) p = afters part n (after p part)
 
 -- one more of a part counts one more
 had-after : (p : Progress) (part : Part) → had (after p part) part ≡ had p part + 1
-had-after p Start = refl
-had-after p Module = refl
-had-after p Struct = refl
-had-after p Field = refl
-had-after p Function = refl
-had-after p Param = refl
-had-after p Answer = refl
-had-after p Local = refl
-had-after p Code = refl
-had-after p End = refl
+had-after p part = grind (arith, nat_tests)
 
 module _ (part : Part) where
   -- what holds of the last part before the row, and of the row's own part, holds of the last part behind it

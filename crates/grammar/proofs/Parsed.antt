@@ -1,13 +1,14 @@
 -- A row that is taken to its end is one that the grammar allows.
 use Rattle.std.proofs.Common.{◌≡◌, ℕ, zero, suc, ◌+◌, ◌-◌, ◌<◌, ◌≤◌, Bool, true, false, cond, leb, List, [], ◌∷◌, ◌++◌, length, Ok, sym, refl, ap, ◌∙◌, subst, append_assoc, arith, rules}
 use Rattle.std.proofs.lemmas.Bool.Decides.{nat_tests}
+use Rattle.std.proofs.lemmas.List.{nil_from_length}
 use Rattle.bytecode.specs.Records.{Shown, formed}
 use Rattle.grammar.specs.declared.order.Part.{Part}
 use Rattle.grammar.specs.declared.order.Part.TheVariants.{Start, Module, Struct, Field, Function, Param, Result as Answer, Local, Code, End}
 use Rattle.grammar.specs.declared.order.Progress.{Progress}
 use Rattle.grammar.specs.Grammar.{Is, Each, none, more, Rows, no_more, and, StructRow, FunctionRow, ModuleRow}
 use Rattle.grammar.specs.Order.{part_of, rank, is_end, may_follow, most, had, after, start}
-use Rattle.grammar.proofs.Steps.{never, Accepts, over, next, Step, step_from}
+use Rattle.grammar.proofs.Steps.{Accepts, over, next, Step, step_from}
 
 -- whether the last part is one of those from one rank up to another
 abbrev between : ℕ → ℕ → Progress → Bool
@@ -98,8 +99,7 @@ without : {xs ys zs : List Shown} → xs ≡ ys ++ zs → ys ≡ [] → xs ≡ z
 without {xs} {ys} {zs} e none_left = e ∙ ap (λ l. l ++ zs) none_left
 
 empty : (xs : List Shown) → length xs ≤ 0 → xs ≡ []
-empty [] h = refl
-empty (x ∷ xs) h = absurd (omega arith)
+empty xs h = nil_from_length xs (omega arith)
 
 -- where parts come no more, the rest begins with those that may
 module _ {p : Progress} {xs : List Shown} (fs : Segment Field) (ss : Group StructRow) (ps : Segment Param) (rs : Segment Answer) (ls : Segment Local) (cs : Segment Code) (gs : Group FunctionRow) (es : Segment End)
@@ -167,7 +167,7 @@ function_row p x ps rs ls cs i l =
 -- one record in front of what is left
 module _ (p : Progress) (x : Shown) (xs : List Shown) where
   in_front : (part : Part) → Is part x → may_follow p.last part ≡ true → had p part < most part → 1 ≤ rank p.last → Rest (after p part) xs → Rest p (x ∷ xs)
-  in_front Start i follows fits begun r = absurd (never follows)
+  in_front Start i follows fits begun r = absurd cc
   in_front Module i follows fits begun r = absurd (grind (arith, nat_tests))
   in_front Struct i follows fits begun (rest fs ss ps rs ls cs gs es all l) =
       rest nil (grouped (x ∷ fs.items) (struct_row p x fs i l) ss) ps rs ls cs gs es
@@ -196,16 +196,7 @@ step_is w s = record { kind = refl; whole = w; ranged = s.ranged }
 
 -- behind a step some record stands
 begun_after : (p : Progress) (part : Part) → may_follow p.last part ≡ true → 1 ≤ rank part
-begun_after p Start follows = absurd (never follows)
-begun_after p Module follows = omega arith
-begun_after p Struct follows = omega arith
-begun_after p Field follows = omega arith
-begun_after p Function follows = omega arith
-begun_after p Param follows = omega arith
-begun_after p Answer follows = omega arith
-begun_after p Local follows = omega arith
-begun_after p Code follows = omega arith
-begun_after p End follows = omega arith
+begun_after p part follows = grind (arith, nat_tests)
 
 rest_of : {p : Progress} {xs : List Shown} → Accepts p xs → 1 ≤ rank p.last → Rest p xs
 rest_of {p} (over ended) begun = rest nil no_group nil nil nil nil no_group nil refl (left-none p ended)
@@ -222,16 +213,7 @@ rows_up n (suc m) h (and {n = k} f fs) = and f (rows_up k m (omega arith) fs)
 
 -- only MODULE comes first
 module_first : (part : Part) → may_follow Start part ≡ true → part ≡ Module
-module_first Start follows = absurd (never follows)
-module_first Module follows = refl
-module_first Struct follows = absurd (never follows)
-module_first Field follows = absurd (never follows)
-module_first Function follows = absurd (never follows)
-module_first Param follows = absurd (never follows)
-module_first Answer follows = absurd (never follows)
-module_first Local follows = absurd (never follows)
-module_first Code follows = absurd (never follows)
-module_first End follows = absurd (never follows)
+module_first part follows = grind (arith, nat_tests)
 
 -- one record of a part
 record Single (part : Part) (xs : List Shown) : Type 0 where
@@ -268,7 +250,7 @@ module_of_lem x xs i (rest fs ss ps rs ls cs gs es all l) =
     }
 
 pub module_parsed : (xs : List Shown) → Accepts start xs → ModuleRow xs
-module_parsed [] (over ended) = absurd (let z : ◌≡◌ {A = ℕ} 0 1 = cc in omega arith)
+module_parsed [] (over ended) = absurd cc
 module_parsed (x ∷ xs) (next {q = q} w a further) =
     let s = step_from start x q a in
     let first = module_first (part_of x.0) s.follows in

@@ -1,6 +1,5 @@
 -- A row of records taken one by one, and what one step asks and keeps.
-use Rattle.std.proofs.Common.{◌≡◌, ℕ, ◌<◌, ◌≤◌, Bool, true, false, cond, ltb, List, [], ◌∷◌, Ok, Err, Result, refl, subst, arith}
-use Rattle.std.proofs.lemmas.Bool.{lt-ltb, ltb-true}
+use Rattle.std.proofs.Common.{◌≡◌, ◌<◌, ◌≤◌, Bool, true, false, cond, ltb, List, [], ◌∷◌, Ok, Err, Result, arith}
 use Rattle.std.proofs.lemmas.Bool.Decides.{nat_tests}
 use Rattle.bytecode.specs.declared.refusals.Reason.{Reason}
 use Rattle.bytecode.specs.declared.refusals.Reason.TheVariants.{OutOfOrder, TooMany, OutOfRange}
@@ -8,13 +7,9 @@ use Rattle.bytecode.specs.Ranges.{in_range}
 use Rattle.bytecode.specs.Records.{Shown, formed}
 use Rattle.bytecode.specs.Refusals.{number}
 use Rattle.grammar.specs.declared.order.Part.{Part}
-use Rattle.grammar.specs.declared.order.Part.TheVariants.{Start, Module, Struct, Field, Function, Param, Result as Answer, Local, Code, End}
 use Rattle.grammar.specs.declared.order.Progress.{Progress}
 use Rattle.grammar.specs.Grammar.{Is}
 use Rattle.grammar.specs.Order.{part_of, is_end, may_follow, most, had, after, advance}
-
-pub never : false ≡ true → ⊥
-never e = let z : ◌≡◌ {A = ℕ} 0 1 = cc in omega arith
 
 -- from this progress on, the row ends the module
 pub data Accepts : Progress → List Shown → Type 0 where
@@ -31,34 +26,20 @@ pub record Step (p : Progress) (x : Shown) (q : Progress) : Type 0 where
 chosen : (a b c : Bool) (p q : Progress)
     → ◌≡◌ {A = Result Progress Reason} (cond a (cond b (cond c (Ok p) (Err OutOfRange)) (Err TooMany)) (Err OutOfOrder)) (Ok q)
     → (a ≡ true) × (b ≡ true) × (c ≡ true) × (q ≡ p)
-chosen true true true p q e = (refl, refl, refl, cc)
-chosen true true false p q e = absurd (let z : ◌≡◌ {A = ℕ} 0 1 = cc in omega arith)
-chosen true false c p q e = absurd (let z : ◌≡◌ {A = ℕ} 0 1 = cc in omega arith)
-chosen false b c p q e = absurd (let z : ◌≡◌ {A = ℕ} 0 1 = cc in omega arith)
+chosen a b c p q e = grind arith
 
 pub step_from : (p : Progress) (x : Shown) (q : Progress) → advance p x ≡ Ok q → Step p x q
 step_from p x q e =
     let t = chosen (may_follow p.last (part_of x.0)) (ltb (had p (part_of x.0)) (most (part_of x.0))) (in_range x) (after p (part_of x.0)) q e in
-    record { follows = t.0; fits = ltb-true _ _ t.1; ranged = t.2; then = t.3 }
+    grind (arith, nat_tests)
 
 -- a record of a part that may come, and of which there is room for one more
 pub step_to : (p : Progress) (part : Part) (x : Shown) → Is part x → may_follow p.last part ≡ true → had p part < most part → advance p x ≡ Ok (after p part)
-step_to p part x i follows fits =
-    let t = lt-ltb (had p part) (most part) fits in
-    rw (i.kind, follows, t, i.ranged)
+step_to p part x i follows fits = grind (arith, nat_tests)
 
 -- nothing follows the end
 follows_open : (last part : Part) → may_follow last part ≡ true → is_end last ≡ false
-follows_open last Start h = absurd (never h)
-follows_open last Module h = grind (arith, nat_tests)
-follows_open last Struct h = grind (arith, nat_tests)
-follows_open last Field h = grind (arith, nat_tests)
-follows_open last Function h = grind (arith, nat_tests)
-follows_open last Param h = grind (arith, nat_tests)
-follows_open last Answer h = grind (arith, nat_tests)
-follows_open last Local h = grind (arith, nat_tests)
-follows_open last Code h = grind (arith, nat_tests)
-follows_open last End h = grind (arith, nat_tests)
+follows_open last part h = grind (arith, nat_tests)
 
 pub step_open : (p : Progress) (x : Shown) (q : Progress) → advance p x ≡ Ok q → is_end p.last ≡ false
 step_open p x q e = follows_open p.last (part_of x.0) (step_from p x q e).follows
@@ -66,10 +47,7 @@ step_open p x q e = follows_open p.last (part_of x.0) (step_from p x q e).follow
 unchosen : (a b c : Bool) (p : Progress) (why : Reason)
     → ◌≡◌ {A = Result Progress Reason} (cond a (cond b (cond c (Ok p) (Err OutOfRange)) (Err TooMany)) (Err OutOfOrder)) (Err why)
     → (2 ≤ number why) × (number why ≤ 4)
-unchosen true true true p why e = absurd (let z : ◌≡◌ {A = ℕ} 0 1 = cc in omega arith)
-unchosen true true false p why e = let same_why : OutOfRange ≡ why = cc in subst (λ w. (2 ≤ number w) × (number w ≤ 4)) same_why (omega arith, omega arith)
-unchosen true false c p why e = let same_why : TooMany ≡ why = cc in subst (λ w. (2 ≤ number w) × (number w ≤ 4)) same_why (omega arith, omega arith)
-unchosen false b c p why e = let same_why : OutOfOrder ≡ why = cc in subst (λ w. (2 ≤ number w) × (number w ≤ 4)) same_why (omega arith, omega arith)
+unchosen a b c p why e = grind arith
 
 -- a step is refused by 2, 3 or 4
 pub step_number : (p : Progress) (x : Shown) (why : Reason) → advance p x ≡ Err why → (2 ≤ number why) × (number why ≤ 4)

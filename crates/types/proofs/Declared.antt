@@ -1,5 +1,5 @@
 -- What a table declares, what is new to it, and which abilities a type has by it.
-use Rattle.std.proofs.Common.{◌≡◌, true, false, ◌⊎◌, [], ◌∷◌, Some, None, refl, arith}
+use Rattle.std.proofs.Common.{◌≡◌, true, false, [], ◌∷◌, Some, None, refl, arith}
 use Rattle.operands.specs.declared.numbers.TypeRef.{TypeRef}
 use Rattle.types.specs.Primitives.{same_type, is_primitive}
 use Rattle.types.specs.Types.{Decl, Table, decl_of, is_known, Known, Sound, Lawful}
@@ -10,12 +10,6 @@ use Rattle.types.proofs.SameTypes.{same_is}
 pub decl_type : (tab : Table) (t : TypeRef) (d : Decl) → decl_of tab t ≡ Some d → d.ty ≡ t
 decl_type [] t d e = grind arith
 decl_type (x ∷ tab) t d e = let ih = decl_type tab t d in let s = same_is x.ty t in grind arith
-
-pub known_cases : (tab : Table) (t : TypeRef) → Known tab t → (is_primitive t ≡ true) ⊎ ((d : Decl) × (decl_of tab t ≡ Some d))
-known_cases tab t k = grind arith
-
-pub declared_known : (tab : Table) (t : TypeRef) (d : Decl) → decl_of tab t ≡ Some d → Known tab t
-declared_known tab t d e = grind arith
 
 pub sound_unknown : (d : Decl) (ds : Table) → Sound d ds → is_known ds d.ty ≡ false
 sound_unknown d ds s = let n = s.numbered in let f = s.fresh in grind arith

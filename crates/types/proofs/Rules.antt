@@ -14,7 +14,7 @@ pub abilities_tell : AbilitiesTellBytes
 abilities_tell n h = grind arith
 
 pub allows_allowed : AllowsAsAllowed
-allows_allowed s f = (λ e. record { copies = λ h. grind arith; drops = λ h. grind arith; stores = λ h. grind arith; keeps = λ h. grind arith }, λ a. grind arith)
+allows_allowed s f = grind arith
 
 decides_each : (p : TypeRef → Bool) (ts : List TypeRef) → Decides (each p ts) (AllByRecursion (λ t. p t ≡ true) ts)
 decides_each p ts = Decides-by_and p (λ t. p t ≡ true) (each p) (λ t. (λ e. e, λ e. e)) refl (λ t ts. refl) ts
@@ -22,15 +22,11 @@ decides_each p ts = Decides-by_and p (λ t. p t ≡ true) (each p) (λ t. (λ e.
 pub fit_decides : (d : Decl) (tab : Table) → Decides (fields_fit d tab) (FieldsFit d tab)
 fit_decides d tab =
     let k = decides_each (is_known tab) d.fields in
-    let a = decides_each (λ f. allows d.abilities (abilities_in tab f)) d.fields in (
-      λ e. record { filled = grind arith; known = k.0 (grind arith); allowed = a.0 (grind arith); narrow = grind arith },
-      λ x. let p = k.1 x.known in let q = a.1 x.allowed in grind arith,
-    )
+    let a = decides_each (λ f. allows d.abilities (abilities_in tab f)) d.fields in
+    grind arith
 
 pub test_rule : TestIsTheRule
-test_rule d ds =
-    let f = fit_decides d ds in
-    (λ e. record { numbered = grind arith; fresh = grind arith; fit = f.0 (grind arith) }, λ x. let p = f.1 x.fit in let n = x.numbered in let h = x.fresh in grind arith)
+test_rule d ds = let f = fit_decides d ds in grind arith
 
 -- a struct that passes the test goes before a lawful table
 pub lawful_more : (d : Decl) (ds : Table) → is_sound d ds ≡ true → Lawful ds → Lawful (d ∷ ds)

@@ -1,5 +1,5 @@
 -- A declared struct over the whole table: it is made of its fields, and keeps the rule that it was declared by.
-use Rattle.std.proofs.Common.{◌≡◌, ℕ, ◌+◌, Bool, true, false, cond, List, [], ◌∷◌, length, Some, sym, ap, ◌∙◌, arith}
+use Rattle.std.proofs.Common.{◌≡◌, ◌+◌, Bool, true, false, cond, List, [], ◌∷◌, length, Some, sym, ap, ◌∙◌, arith}
 use Rattle.std.specs.List.{AllByRecursion}
 use Rattle.std.proofs.ByRecursion.{All-weaker}
 use Rattle.operands.specs.declared.numbers.TypeRef.{TypeRef}
@@ -19,7 +19,7 @@ pub record Origin (d : Decl) (tab : Table) : Type 0 where
   pub since : Grows (d ∷ before) tab
 
 pub origin : (tab : Table) → Lawful tab → (t : TypeRef) (d : Decl) → decl_of tab t ≡ Some d → Origin d tab
-origin [] l t d e = let z : ◌≡◌ {A = ℕ} 0 1 = cc in absurd (omega arith)
+origin [] l t d e = absurd cc
 origin (x ∷ tab) l t d e = go (origin tab l.1 t d) (same_type x.ty t) e
   where
     go : (decl_of tab t ≡ Some d → Origin d tab) → (b : Bool) → cond b (Some x) (decl_of tab t) ≡ Some d → Origin d (x ∷ tab)

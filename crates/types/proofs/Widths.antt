@@ -1,10 +1,10 @@
 -- The words of a type are primitive, one at least, and in a lawful table at most 16.
-use Rattle.std.proofs.Common.{◌≡◌, ℕ, ◌<◌, ◌≤◌, Bool, true, false, cond, List, [], ◌∷◌, length, refl, ap, arith}
+use Rattle.std.proofs.Common.{◌≡◌, ℕ, ◌<◌, ◌≤◌, true, false, List, [], ◌∷◌, length, refl, ap, arith}
 use Rattle.std.specs.List.{AllByRecursion}
 use Rattle.std.proofs.ByRecursion.{All-append}
 use Rattle.operands.specs.declared.numbers.TypeRef.{TypeRef}
 use Rattle.types.specs.Primitives.{same_type, is_primitive}
-use Rattle.types.specs.Types.{Decl, Table, total, joined, layout, width, Known, Lawful}
+use Rattle.types.specs.Types.{Decl, Table, total, joined, word, layout, width, Known, Lawful}
 use Rattle.types.specs.Laws.{PrimitiveIsOneWord, WordsArePrimitive, KnownIs1To16Wide}
 use Rattle.types.proofs.Declared.{primitive_undeclared}
 use Rattle.types.proofs.Made.{by-table, width_here, layout_here, layout_skip, layout_undeclared}
@@ -16,9 +16,8 @@ one_word tab l t p = let u = layout_undeclared tab t (primitive_undeclared tab l
 abbrev Plain : List TypeRef → Type 0
 Plain ws = AllByRecursion (λ w. is_primitive w ≡ true) ws
 
-plain_word : (t : TypeRef) (b : Bool) → is_primitive t ≡ b → Plain (cond b (t ∷ []) [])
-plain_word t true e = (e, tt)
-plain_word t false e = tt
+plain_word : (t : TypeRef) → Plain (word t)
+plain_word t = grind arith
 
 plain_joined : (f : TypeRef → List TypeRef) → ((t : TypeRef) → Plain (f t)) → (ts : List TypeRef) → Plain (joined f ts)
 plain_joined f h [] = tt
@@ -28,7 +27,7 @@ pub words_primitive : WordsArePrimitive
 words_primitive =
     by-table
     (λ tab t. Plain (layout tab t))
-    (λ t. rw (layout_undeclared [] t refl) (plain_word t (is_primitive t) refl))
+    (λ t. rw (layout_undeclared [] t refl) (plain_word t))
     (λ d ds t e ih. rw (layout_here d ds t e) (plain_joined (layout ds) ih d.fields))
     (λ d ds t e ih. rw (layout_skip d ds t e) (ih t))
 
