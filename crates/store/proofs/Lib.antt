@@ -1,2 +1,2 @@
 pub mod KeyByKey
-pub mod Padding
+pub mod WrittenBack

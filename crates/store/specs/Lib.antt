@@ -6,3 +6,5 @@ pub mod Refusals
 pub mod Tables
 pub mod Orders
 pub mod TableLaws
+pub mod WordLists
+pub mod WordLaws

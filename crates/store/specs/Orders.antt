@@ -1,8 +1,10 @@
--- The order of keys is total.
+-- The order of keys is total, and is what `<` answers.
 use Rattle.std.specs.Prelude.{◌≡◌, ℕ}
+use Rattle.std.specs.Ordering.{partial_lt}
 use Rattle.std.proofs.Common.{ap, ◌∙◌, arith}
 use Rattle.std.proofs.lemmas.Bool.Decides.{nat_tests}
 use Rattle.table.specs.Order.{Order}
+use Rattle.store.specs.contracts.keys.KeyPartialOrd.TheImpl.{ghosts}
 use Rattle.store.specs.declared.keys.Key.{Key}
 use Rattle.store.specs.Keys.{key_before}
 
@@ -19,3 +21,9 @@ key_order = record {
       let c : x.index ≡ y.index = grind (arith, nat_tests) in
       ap (λ z. made z x.«module» x.index) a ∙ ap (λ z. made y.address z x.index) b ∙ ap (made y.address y.«module») c;
 }
+
+pub key_less : partial_lt ghosts.partial_cmp ≡ key_before
+key_less i x y = less x y i
+  where
+    less : (x y : Key) → partial_lt ghosts.partial_cmp x y ≡ key_before x y
+    less x y = grind (arith, nat_tests)

@@ -30,10 +30,14 @@ abbrev pub words_of : Option Entry → List ℕ
 words_of None = []
 words_of (Some e) = e.1
 
+-- 16 words: the given ones, then zeros
+abbrev pub padded : List ℕ → List ℕ
+padded ws = ws ++ replicate (16 - length ws) 0
+
 -- what a place of 16 words holds after a read: the words that were found, then zeros; or what it held
 abbrev pub shown : Option Entry → List ℕ → List ℕ
 shown None place = place
-shown (Some e) place = e.1 ++ replicate (16 - length e.1) 0
+shown (Some e) place = padded e.1
 
 -- the smallest key above the given one, or the first
 abbrev pub next_key : Option Key → List Entry → Option Key

@@ -2,12 +2,14 @@
 ghost use Rattle.std.specs.Prelude.{◌≡◌, ◌≤◌, true, length, take};
 ghost use Rattle.store.specs.Tables.{rising};
 
-use super::rows::Rows;
+use super::pair::Pair;
 
+// The host gives the rows and gets all of them back, so how many are in use stands beside them.
 #[derive(Drop)]
 pub struct TableStore {
-    pub(crate) rows: Rows,
-    ghost within: { rows.used ≤ length rows.items.items },
-    ghost few: { length rows.items.items ≤ 4096 },
-    ghost sorted: { rising (take rows.used rows.items.items) ≡ true },
+    pub(crate) rows: Vec<Pair>,
+    pub(crate) used: usize,
+    ghost within: { used ≤ length rows.items },
+    ghost few: { length rows.items ≤ 4096 },
+    ghost sorted: { rising (take used rows.items) ≡ true },
 }

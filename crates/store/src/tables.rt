@@ -1,59 +1,71 @@
 // The table store as a store.
-ghost use Rattle.std.specs.Prelude.{◌≡◌, min, [], length, None, vec_len, refl};
-ghost use Rattle.store.specs.Tables.{table_model};
+ghost use Rattle.std.specs.Prelude.{◌≡◌, min, [], length, take, None, vec_len, refl};
+ghost use Rattle.std.specs.Option.{option_map};
+ghost use Rattle.store.specs.Keys.{key_before};
+ghost use Rattle.store.specs.Tables.{pair_key, table_model};
 ghost use Rattle.store.specs.TableLaws.{table_sound};
+ghost use Rattle.table.specs.Rows.{look};
 
 use super::keys::Key;
 use super::pair::Pair;
 use super::refusals::Refusal;
-use super::rows::Rows;
 use super::stores::{ListingStore, Store, UncappedStore};
 use super::table_store::TableStore;
+use super::words::Words;
+use table::{find, insert, next, remove};
 
 const MOST_ROWS: usize = 4096;
 
 impl TableStore {
     // An empty store over the host's rows, of which it uses at most 4,096.
     pub fn over(mut rows: Vec<Pair>) -> TableStore
-        ensures { table_model result.rows.items.items result.rows.used ≡ record { pairs = []; limit = min (vec_len rows) 4096; touched = None } }
+        ensures { table_model result.rows.items result.used ≡ record { pairs = []; limit = min (vec_len rows) 4096; touched = None } }
     {
         rows.truncate(MOST_ROWS);
-        TableStore {
-            rows: Rows {
-                items: rows,
-                used: 0,
-            },
-        }
+        TableStore { rows, used: 0 }
     }
 
     // The rows, for the host.
     pub fn into_rows(self) -> Vec<Pair>
-        ensures { result ≡ self.rows.items }
+        ensures { result ≡ self.rows }
     {
-        let TableStore {
-            rows: Rows { items, used: _ },
-        } = self;
-        items
+        let TableStore { rows, used: _ } = self;
+        rows
+    }
+
+    fn in_use(&self) -> &[Pair]
+        ensures { result.now ≡ take self.now.used self.now.rows.items }
+    {
+        &self.rows[..self.used]
+    }
+
+    fn get(&self, key: Key) -> Option<&Pair>
+        ensures { option_map (λ x. x.now) result ≡ look pair_key key_before key (take self.now.used self.now.rows.items) }
+    {
+        let pairs = self.in_use();
+        let at = find(pairs, key).ok()?;
+        Some(&pairs[at])
     }
 }
 
 impl Store for TableStore {
-    ghost means = { λ s. table_model s.rows.items.items s.rows.used };
+    ghost means = { λ s. table_model s.rows.items s.used };
 
     ghost under = { λ _. [] };
 
     ghost sound = { λ s. table_sound _ _ s.within s.few s.sorted };
 
     fn size(&self) -> u64 {
-        self.rows.used as u64
+        self.used as u64
     }
 
     fn limit(&self) -> u64 {
-        self.rows.items.len() as u64
+        self.rows.len() as u64
     }
 
+    #[tactic(auto, using(crate::specs::TableLaws::meanings))]
     fn has(&self, key: Key) -> bool {
-        self.rows.get(key).is_some()
+        self.get(key).is_some()
     }
 
     fn touches(&self, _key: Key) -> bool {
@@ -64,30 +76,27 @@ impl Store for TableStore {
         None
     }
 
+    #[tactic(auto, using(crate::specs::TableLaws::meanings))]
     fn read(&self, key: Key, place: &mut [u64; 16]) -> usize {
-        match self.rows.get(key) {
-            Some(pair) => {
-                let words = pair.words;
-                *place = words;
-                pair.count
-            }
+        match self.get(key) {
+            Some(pair) => pair.words.fill(place),
             None => 0,
         }
     }
 
     fn put(&mut self, key: Key, words: &[u64]) -> Result<(), Refusal> {
-        let Some(pair) = Pair::new(key, words) else {
-            return Err(Refusal::WrongLength);
-        };
-        if self.rows.put(pair) {
-            Ok(())
-        } else {
-            Err(Refusal::AtLimit)
-        }
+        let words = Words::try_from(words)?;
+        let pair = Pair { key, words };
+        self.used = insert(self.rows.as_mut_slice(), self.used, pair).map_err(
+            |_| Refusal::AtLimit,
+        )?;
+        Ok(())
     }
 
     fn remove(&mut self, key: Key) -> Result<bool, Refusal> {
-        Ok(self.rows.take(key))
+        let left = remove(self.rows.as_mut_slice(), self.used, key);
+        self.used = left.unwrap_or(self.used);
+        Ok(left.is_some())
     }
 }
 
@@ -97,9 +106,10 @@ impl UncappedStore for TableStore {
 
 impl ListingStore for TableStore {
     fn next(&self, after: Option<Key>) -> Option<Key> {
-        match self.rows.above(after) {
-            Some(pair) => Some(pair.key),
-            None => None,
+        let pairs = self.in_use();
+        match after {
+            Some(key) => next(pairs, key).map(|pair| pair.key),
+            None => pairs.first().map(|pair| pair.key),
         }
     }
 }

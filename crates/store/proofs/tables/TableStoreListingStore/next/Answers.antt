@@ -1,15 +1,18 @@
-use Rattle.std.proofs.Common.{ap, ◌∙◌}
+use Rattle.std.proofs.Common.{◌≡◌, true, sym, ap, ◌∙◌, arith}
+use Rattle.std.proofs.lemmas.Grind.{common_steps}
 use Rattle.std.specs.Option.{option_map}
-use Rattle.store.specs.Tables.{pair_key}
-use Rattle.store.specs.TableLaws.{next-meant}
+use Rattle.store.specs.Orders.{key_less}
+use Rattle.store.specs.TableLaws.{first-meant, next-meant}
+use Rattle.store.specs.Tables.{pair_key, rising}
 use Rattle.store.proofs.tables.TableStoreListingStore.next.Goals as goal
 
 pub returns-in-Some : goal.returns-in-Some
 returns-in-Some c =
-    let s = c.args.self.now in
-    ap (option_map pair_key) (c.in-Some.ensures (s.within, s.sorted)) ∙ next-meant c.args.after _
+    let pairs = c.in_use-pairs.result.now in
+    let r : rising pairs ≡ true = rw c.in_use-pairs.ensures c.args.self.now.sorted in
+    let f = (rw key_less at c.next.ensures.sorted) r in
+    let e : c.map.result ≡ option_map pair_key c.next.result = grind (arith, common_steps) in
+    rw (c.in-Some.is, ← c.in_use-pairs.ensures) (e ∙ ap (option_map pair_key) f ∙ sym (next-meant c.in-Some.key pairs))
 
 pub returns-in-None : goal.returns-in-None
-returns-in-None c =
-    let s = c.args.self.now in
-    ap (option_map pair_key) (c.in-None.ensures (s.within, s.sorted)) ∙ next-meant c.args.after _
+returns-in-None c = grind (arith, common_steps, first-meant)
