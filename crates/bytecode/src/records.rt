@@ -62,7 +62,7 @@ fn bare<'a>(record: Record<'a>, body: &[u8]) -> Result<Record<'a>, Reason>
 }
 
 impl<'a> Record<'a> {
-    // The record of this kind with this body. The kind is a module's byte, which may be any; `Record` is itself the enum of kinds.
+    // The record of this kind with this body: from two values, so no `TryFrom`. A kind stays a byte, as a module may have any; `Record` is itself the enum of kinds.
     #[tactic(auto, unfolding(crate::specs::Kinds::body_length))]
     pub fn of(kind: u8, body: &'a [u8]) -> Result<Record<'a>, Reason>
         ensures { shown_ok result ≡ formed (kind, body.now) }
@@ -104,6 +104,7 @@ impl<'a> Record<'a> {
         Ok(record)
     }
 
+    // The kind's byte, as modules have it.
     pub fn kind(&self) -> u8
         ensures { result ≡ (shown self.now).0 }
     {

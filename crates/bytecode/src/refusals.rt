@@ -46,11 +46,14 @@ impl Reason {
             Reason::NoRoom => 16,
         }
     }
+}
 
-    fn words(self) -> &'static str
-        ensures { result.now ≡ reason_text self }
-    {
-        match self {
+// By hand, as every Display here: thiserror's derive writes one with no contract, and this text is proved.
+impl fmt::Display for Reason {
+    ghost output = { λ x. Some (reason_text x) };
+
+    fn fmt<W: fmt::Write>(&self, f: &mut fmt::Formatter<W>) -> fmt::Result {
+        f.write_str(match self {
             Reason::MissingEnd => "the bytes stop where a record should begin",
             Reason::UnknownKind => "no kind of record has this byte",
             Reason::CutRecord => "the bytes stop inside this record",
@@ -61,16 +64,7 @@ impl Reason {
             Reason::TooLong => "a module has at most 4096 bytes",
             Reason::OutOfRange => "a value in this record's body is out of range",
             Reason::NoRoom => "the buffer has no room for this record",
-        }
-    }
-}
-
-// By hand, as every Display here: thiserror's derive writes one with no contract, and this text is proved.
-impl fmt::Display for Reason {
-    ghost output = { λ x. Some (reason_text x) };
-
-    fn fmt<W: fmt::Write>(&self, f: &mut fmt::Formatter<W>) -> fmt::Result {
-        f.write_str(self.words())
+        })
     }
 }
 

@@ -9,6 +9,6 @@ pub use abilities::Abilities;
 pub use primitives::{ADDRESS, BOOL, NUM, is_primitive};
 pub use theorems::{
     abilities_reach_what_is_inside, bytes_and_abilities_tell_each_other, constants_are_as_defined,
-    equal_types_are_the_same, examples_stand_so, insides_are_counted, older_types_stay,
-    structs_are_their_fields, tests_say_the_rules, types_have_their_abilities,
+    examples_stand_so, insides_are_counted, older_types_stay, structs_are_their_fields,
+    tests_say_the_rules, types_have_their_abilities,
 };

@@ -19,10 +19,6 @@ pub fn constants_are_as_defined()
     ensures abilities { Abilities.PRIMITIVE ≡ primitive }
 {}
 
-pub fn equal_types_are_the_same()
-    ensures { (a b : TypeRef) → ⟦<TypeRef as PartialEq>⟧.eq a b ≡ same_type a b }
-{}
-
 pub fn bytes_and_abilities_tell_each_other()
     ensures bytes { BytesTellAbilities }
     ensures abilities { AbilitiesTellBytes }
@@ -30,6 +26,7 @@ pub fn bytes_and_abilities_tell_each_other()
 
 pub fn tests_say_the_rules()
     ensures abilities { AllowsAsAllowed }
+    ensures types { (a b : TypeRef) → ⟦<TypeRef as PartialEq>⟧.eq a b ≡ same_type a b }
     ensures structs { TestIsTheRule }
     ensures later { StructKeepsItsRule }
 {}

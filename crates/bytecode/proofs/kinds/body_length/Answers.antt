@@ -1,5 +1,5 @@
 -- The table is the list of the rule's values at 0 to 255, which antt computes.
-use Rattle.std.proofs.Common.{◌≡◌, ℕ, ◌<◌, sym, ◌∙◌, arith, rules}
+use Rattle.std.proofs.Common.{◌≡◌, sym, ◌∙◌, arith, rules}
 use Rattle.std.proofs.lemmas.List.FromFn.{get_or-map-range_with_len}
 use Rattle.bytecode.specs.Kinds.{body_length}
 use Rattle.bytecode.proofs.kinds.body_length.Goals as goal
