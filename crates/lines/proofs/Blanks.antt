@@ -1,33 +1,26 @@
--- One turn of the loops that pass over blanks and over a word.
-use Rattle.std.proofs.Common.{◌≡◌, ℕ, ◌+◌, ◌-◌, ◌<◌, ◌≤◌, true, false, List, [], ◌∷◌, length, get_or, take, drop, refl, ap, arith}
-use Rattle.std.proofs.lemmas.List.{take_rest, at_drop_more, at_drop_all}
+-- Where a word begins and where it ends, by the library's first position at which a test holds.
+use Rattle.std.proofs.Common.{◌≡◌, ℕ, ◌+◌, Bool, true, false, cond, not, List, [], ◌∷◌, length, drop, Option, refl, ap, sym, arith}
+use Rattle.std.specs.Option.{unwrap_or}
+use Rattle.std.specs.List.{position, position_or_len}
+use Rattle.std.proofs.lemmas.List.Recursion.{is_position_or_len}
+use Rattle.std.proofs.lemmas.List.Sums.{prefix_len-le-length}
+use Rattle.std.proofs.lemmas.Grind.{common_steps}
 use Rattle.lines.specs.Words.{blank, past_blanks, word_length}
 
-pub passed : (cs : List ℕ) → 0 < length cs → blank (get_or cs 0 0) ≡ true → past_blanks (take (length cs - 1) (drop 1 cs)) ≡ past_blanks cs
-unfolding past_blanks
-passed [] some is = absurd (omega arith)
-passed (c ∷ cs) some is = rw is (ap past_blanks (take_rest (c ∷ cs) 1))
+pub first_or_end : (p : ℕ → Bool) (cs : List ℕ) (o : Option ℕ) → o ≡ position p cs → unwrap_or o (length cs) ≡ position_or_len p cs
+first_or_end p cs o is =
+    let in_text = prefix_len-le-length (λ c. not (p c)) cs in
+    grind (arith, common_steps)
 
-pub stopped : (cs : List ℕ) → blank (get_or cs 0 0) ≡ false → cs ≡ past_blanks cs
-unfolding past_blanks
-stopped [] is = refl
-stopped (c ∷ cs) is = rw is
-
-pub none_left : (cs : List ℕ) → length cs ≡ 0 → cs ≡ past_blanks cs
-unfolding past_blanks
-none_left [] none = refl
-none_left (c ∷ cs) none = absurd (omega arith)
-
-pub letter : (cs : List ℕ) (n : ℕ) → n < length cs → blank (get_or cs n 0) ≡ false → n + 1 + word_length (drop (n + 1) cs) ≡ n + word_length (drop n cs)
+pub word_ends : (cs : List ℕ) → position_or_len blank cs ≡ word_length cs
 unfolding word_length
-letter cs n in_text is =
-    let one = at_drop_more word_length cs n 0 in_text in
-    omega (arith, rw is at one)
+word_ends cs = sym (is_position_or_len word_length blank refl (λ c cs. ap (cond (blank c) 0) (omega arith)) cs)
 
-pub word_ends : (cs : List ℕ) (n : ℕ) → n < length cs → blank (get_or cs n 0) ≡ true → word_length (drop n cs) ≡ 0
-unfolding word_length
-word_ends cs n in_text is = rw is at (at_drop_more word_length cs n 0 in_text)
+begins : (b : Bool) (c : ℕ) (cs rest : List ℕ) (n : ℕ) → drop n cs ≡ rest → drop (cond (not (not b)) (1 + n) 0) (c ∷ cs) ≡ cond b rest (c ∷ cs)
+begins true c cs rest n is = grind (arith, common_steps)
+begins false c cs rest n is = refl
 
-pub text_ends : (cs : List ℕ) (n : ℕ) → length cs ≤ n → word_length (drop n cs) ≡ 0
-unfolding word_length
-text_ends cs n past = at_drop_all word_length cs n past
+pub word_begins : (cs : List ℕ) → drop (position_or_len (λ c. not (blank c)) cs) cs ≡ past_blanks cs
+unfolding past_blanks
+word_begins [] = refl
+word_begins (c ∷ cs) = begins (blank c) c cs _ _ (word_begins cs)

@@ -1,11 +1,12 @@
-// What may be wrong with a line.
-ghost use Rattle.std.specs.Prelude.{◌≡◌, Some};
+// What may be wrong with a line, and why a line may not be read.
+ghost use Rattle.std.specs.Prelude.{◌≡◌, Some, alloc_error};
 ghost use Rattle.lines.specs.BadLines.{words_of};
+ghost use Rattle.lines.specs.declared.bad_lines.LineError.TheVariants.{Bad, OutOfMemory};
 
-use std::alloc::AllocError;
+use std::alloc::{AllocError, AllocFailed};
 use std::fmt;
 
-#[derive(Clone, Copy)]
+#[derive(Clone, Copy, Debug, PartialEq, Eq)]
 pub enum BadLine {
     UnknownCommand,
     MissingOperand,
@@ -13,9 +14,6 @@ pub enum BadLine {
     NoHexDigit,
     OddHexDigits,
 }
-
-// Something read from a line, or what is wrong with the line; or there is no memory.
-pub type Parsed<T> = Result<Result<T, BadLine>, AllocError>;
 
 impl BadLine {
     fn words(self) -> &'static str
@@ -31,10 +29,34 @@ impl BadLine {
     }
 }
 
+// By hand, as thiserror's derive writes a Display with no contract, and the text is proved here.
 impl fmt::Display for BadLine {
     ghost output = { λ x. Some (words_of x) };
 
     fn fmt<W: fmt::Write>(&self, f: &mut fmt::Formatter<W>) -> fmt::Result {
         f.write_str(self.words())
+    }
+}
+
+// Why something could not be read from a line.
+#[derive(Clone, Copy, Debug, PartialEq, Eq)]
+pub enum LineError {
+    Bad(BadLine),
+    OutOfMemory(AllocError),
+}
+
+impl From<BadLine> for LineError {
+    ghost from_gives = { λ why error. error ≡ Bad why };
+
+    fn from(why: BadLine) -> LineError {
+        LineError::Bad(why)
+    }
+}
+
+impl<T: Drop> From<AllocFailed<T>> for LineError {
+    ghost from_gives = { λ _ error. error ≡ OutOfMemory alloc_error };
+
+    fn from(failed: AllocFailed<T>) -> LineError {
+        LineError::OutOfMemory(failed.into())
     }
 }

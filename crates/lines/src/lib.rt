@@ -6,5 +6,5 @@ mod commands;
 mod hex;
 mod words;
 
-pub use bad_lines::{BadLine, Parsed};
+pub use bad_lines::{BadLine, LineError};
 pub use commands::{Command, parse_line};

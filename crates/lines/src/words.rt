@@ -1,37 +1,26 @@
 // The words of a line, which blanks set apart.
 ghost use Rattle.std.specs.Prelude.{◌≡◌, ◌≤◌, length};
-ghost use Rattle.std.specs.Str.{bytes_eq};
 ghost use Rattle.lines.specs.Words.{blank, past_blanks, word_length, first_word, after_word};
 
 // A carriage return counts, so that the line of a file with CR and LF ends like any other.
-fn is_blank(c: u8) -> bool
-    ensures { result ≡ blank c }
+fn is_blank(c: &u8) -> bool
+    ensures { result ≡ blank c.now }
 {
-    c == b' ' || c == b'\t' || c == b'\r'
+    matches!(c, b' ' | b'\t' | b'\r')
 }
 
 fn past_blanks(text: &[u8]) -> &[u8]
     ensures { result.now ≡ past_blanks text.now }
 {
-    let mut rest = text;
-    while let [first, behind @ ..] = rest {
-        if !is_blank(*first) {
-            break;
-        }
-        rest = behind;
-    }
-    rest
+    let blanks = text.iter().position(|c| !is_blank(c));
+    &text[blanks.unwrap_or(text.len())..]
 }
 
 fn word_length(text: &[u8]) -> usize
     ensures is { result ≡ word_length text.now }
     ensures within { result ≤ length text.now }
 {
-    let mut n = 0;
-    while n < text.len() && !is_blank(text[n]) {
-        n += 1;
-    }
-    n
+    text.iter().position(is_blank).unwrap_or(text.len())
 }
 
 // The first word of a text, and what comes behind it. A text of blanks has an empty first word.
@@ -41,10 +30,4 @@ pub fn first_word(text: &[u8]) -> (&[u8], &[u8])
 {
     let start = past_blanks(text);
     start.split_at(word_length(start))
-}
-
-pub fn same_word(word: &[u8], name: &[u8]) -> bool
-    ensures { result ≡ bytes_eq word.now name.now }
-{
-    word == name
 }
