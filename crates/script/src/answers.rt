@@ -5,7 +5,7 @@ ghost use Rattle.script.specs.Answers.{same_text, read_answer, line_answer};
 ghost use Rattle.lines.specs.Lines.{parsed};
 
 use codec::{read_module, rewrite_module};
-use lines::{Command, parse_line};
+use lines::{Command, LineError, parse_line};
 use listing::list_records;
 use std::alloc::{AllocError, Global};
 use std::io;
@@ -15,10 +15,7 @@ fn same_again(heap: Global, bytes: &[u8]) -> Result<bool, AllocError>
     ensures { IfOk result (λ same. same ≡ is_ok (read_module bytes.now)) }
 {
     let mut buffer = vec![in heap; 0; bytes.len()]?;
-    match rewrite_module(bytes, buffer.as_mut_slice()) {
-        Ok(n) => Ok(n == bytes.len() && buffer.as_slice() == bytes),
-        Err(_) => Ok(false),
-    }
+    Ok(rewrite_module(bytes, &mut buffer) == Ok(bytes.len()) && buffer.as_slice() == bytes)
 }
 
 fn same_words(same: bool) -> &'static str
@@ -36,9 +33,7 @@ fn answer_read(heap: Global, bytes: &[u8], out: &mut String) -> io::Result<()>
     ensures { OnOk result (string_bytes out.new ≡ string_bytes out.old ++ read_answer bytes.now (read_module bytes.now)) }
 {
     match read_module(bytes) {
-        Err(fault) => {
-            writeln!(out, "read: {fault}")?;
-        }
+        Err(fault) => writeln!(out, "read: {fault}")?,
         Ok(records) => {
             writeln!(out, "read: ok, {records} records")?;
             list_records(bytes, out)?;
@@ -54,15 +49,16 @@ pub fn answer_line(heap: Global, number: u64, line: &[u8], out: &mut String) -> 
     ensures text { OnOk result (string_bytes out.new ≡ string_bytes out.old ++ line_answer number (parsed line.now)) }
     ensures good { IfOk result (λ good. good ≡ is_ok (parsed line.now)) }
 {
-    match parse_line(heap, line)? {
+    match parse_line(heap, line) {
         Ok(None) => Ok(true),
         Ok(Some(Command::Read(bytes))) => {
-            answer_read(heap, bytes.as_slice(), out)?;
+            answer_read(heap, &bytes, out)?;
             Ok(true)
         }
-        Err(why) => {
+        Err(LineError::Bad(why)) => {
             writeln!(out, "line {number}: {why}")?;
             Ok(false)
         }
+        Err(LineError::OutOfMemory(error)) => Err(error.into()),
     }
 }

@@ -10,10 +10,12 @@ use std::{env, fs, io};
 fn run_script<R: Read + Drop>(rt: &HostRuntime, source: R) -> io::Result<bool> {
     let heap = rt.alloc();
     let mut good = true;
-    let mut number = 0u64;
-    for line in BufReader::new(heap, source)?.split(heap, b'\n') {
+    for (index, line) in BufReader::new(heap, source)?
+        .split(heap, b'\n')
+        .enumerate()
+    {
         let line = line?;
-        number = number.saturating_add(1);
+        let number = index as u64 + 1;
         let mut answer = String::new(heap);
         if !answer_line(heap, number, line.as_slice(), &mut answer)? {
             good = false;
