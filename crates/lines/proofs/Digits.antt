@@ -1,9 +1,12 @@
 -- One turn of the loop over pairs of hex digits: a pair comes off the front of the text that is left.
-use Rattle.std.proofs.Common.{◌≡◌, ℕ, ◌+◌, ◌*◌, ◌<◌, min, List, [], ◌∷◌, ◌++◌, length, get_or, Some, None, Ok, Err, sym, refl, ap, ◌∙◌, append_assoc, append-nil, arith, length-append}
-use Rattle.std.proofs.lemmas.Grind.{common_steps}
+use Rattle.std.proofs.Common.{◌≡◌, ℕ, ◌+◌, ◌*◌, ◌<◌, min, List, [], ◌∷◌, ◌++◌, length, get_or, Some, None, Ok, Err, Result, Vec, sym, refl, ap, ◌∙◌, append_assoc, append-nil, arith}
+use Rattle.std.specs.Result.{IsErrAnd}
 use Rattle.lines.specs.declared.bad_lines.BadLine.{BadLine}
 use Rattle.lines.specs.declared.bad_lines.BadLine.TheVariants.{NoHexDigit, OddHexDigits}
-use Rattle.lines.specs.Hex.{Bytes, digit_value, on_digit, onto, unhex}
+use Rattle.lines.specs.declared.bad_lines.LineError.{LineError}
+use Rattle.lines.specs.declared.bad_lines.LineError.TheVariants.{Bad, OutOfMemory}
+use Rattle.lines.specs.BadLines.{UnlessOutOfMemory}
+use Rattle.lines.specs.Hex.{Bytes, digit_value, items_of, on_digit, onto, unhex}
 
 abbrev joined : List ℕ → ℕ → ℕ → Bytes
 joined cs x y = onto ((x * 16 + y) ∷ []) (unhex cs)
@@ -44,6 +47,11 @@ unfolding unhex
 no_more xs [] r none is = ap (λ l. Ok l) (sym (append-nil xs)) ∙ is
 no_more xs (c ∷ cs) r none is = absurd (omega arith)
 
--- a refusal of what is left is one of the text
-pub refused : (old cs pair tail : List ℕ) (why : BadLine) (r : Bytes) → cs ≡ pair ++ tail → onto old (unhex cs) ≡ r → Err why ≡ unhex (pair ++ tail) → Err why ≡ r
-refused old cs pair tail why r cut told is = ap (onto old) (is ∙ ap unhex (sym cut)) ∙ told
+-- what is wrong with the text that is left is wrong with the whole
+pub refused : {Z : Type 0} (answer : Result (Vec ℕ Z) LineError) (old cs pair tail : List ℕ) (found why : BadLine) (whole : Bytes) → cs ≡ pair ++ tail → onto old (unhex cs) ≡ whole
+    → IsErrAnd answer (λ error. error ≡ Bad found) → found ≡ why → Err why ≡ unhex (pair ++ tail) → UnlessOutOfMemory answer (λ o. items_of o ≡ whole)
+refused (Ok bytes) old cs pair tail found why whole joins told is same wrong = absurd is
+refused (Err (Bad reason)) old cs pair tail found why whole joins told is same wrong =
+    let reasons : reason ≡ why = cc in
+    ap (λ w. Err w) reasons ∙ ap (onto old) (wrong ∙ ap unhex (sym joins)) ∙ told
+refused (Err (OutOfMemory error)) old cs pair tail found why whole joins told is same wrong = tt

@@ -1,7 +1,7 @@
 // Runs a script of commands and prints what each is answered.
 #![tactic(auto)]
 
-use anyhow::anyhow;
+use anyhow::ensure;
 use script::answer_line;
 use std::io::{BufRead, BufReader, Read};
 use std::{env, fs, io};
@@ -10,33 +10,22 @@ use std::{env, fs, io};
 fn run_script<R: Read + Drop>(rt: &HostRuntime, source: R) -> io::Result<bool> {
     let heap = rt.alloc();
     let mut good = true;
-    for (index, line) in BufReader::new(heap, source)?
-        .split(heap, b'\n')
-        .enumerate()
-    {
-        let line = line?;
-        let number = index as u64 + 1;
+    let lines = BufReader::new(heap, source)?.split(heap, b'\n');
+    for (index, line) in lines.enumerate() {
         let mut answer = String::new(heap);
-        if !answer_line(heap, number, line.as_slice(), &mut answer)? {
-            good = false;
-        }
+        good &= answer_line(heap, index as u64 + 1, &line?, &mut answer)?;
         rt.print(answer)?;
     }
     Ok(good)
 }
 
 fn run(rt: &HostRuntime) -> anyhow::Result<()> {
-    let mut arguments = env::args(rt)?;
-    let _program = arguments.next();
-    let good = match arguments.next() {
+    let good = match env::args(rt)?.nth(1) {
         Some(path) => run_script(rt, fs::open(rt, path)?)?,
         None => run_script(rt, rt.stdin())?,
     };
-    if good {
-        Ok(())
-    } else {
-        Err(anyhow!("a line of the script is in no form that is known"))
-    }
+    ensure!(good, "a line of the script is in no form that is known");
+    Ok(())
 }
 
 fn main(rt: HostRuntime) -> anyhow::Result<()> {

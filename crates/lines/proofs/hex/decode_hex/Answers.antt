@@ -1,7 +1,6 @@
-use Rattle.std.proofs.Common.{◌≡◌, ◌+◌, ◌*◌, ◌<◌, min, [], ◌∷◌, ◌++◌, length, vec_items, Some, None, Err, get_or, refl, sym, ap, ◌∙◌, rules, arith}
+use Rattle.std.proofs.Common.{◌≡◌, ◌+◌, ◌*◌, ◌<◌, min, [], ◌∷◌, length, vec_items, Some, None, get_or, refl, sym, ap, ◌∙◌, arith}
 use Rattle.std.proofs.lemmas.Slice.{pushed}
-use Rattle.std.proofs.lemmas.Result.{err_from_is_err_and}
-use Rattle.std.specs.Slice.Iter.{chunks_rest, chunks_size}
+use Rattle.std.specs.Slice.Iter.{chunks_rest}
 use Rattle.lines.specs.Hex.{digit_value, onto, unhex}
 use Rattle.lines.specs.declared.bad_lines.BadLine.TheVariants.{NoHexDigit, OddHexDigits}
 use Rattle.lines.proofs.Digits.{no_digit, odd, no_second, both, onto_more, no_more, refused}
@@ -14,8 +13,7 @@ returns-in_err-high c =
     let cut = c.in-Some.ensures.steps.1 in
     let bad : None ≡ digit_value (get_or pair 0 0) = grind arith in
     let why : c.in_err-high.field-0.0 ≡ NoHexDigit = grind arith in
-    let is = err_from_is_err_and c.from_residual.result c.from_residual.ensures.1 in
-    rw (is.1, is.2, why) (refused (vec_items c.loop-pair.bytes) _ pair tail NoHexDigit _ cut.0 c.loop-pair.invariant.told (no_digit pair tail (omega arith) bad))
+    refused c.from_residual.result (vec_items c.loop-pair.bytes) _ pair tail _ NoHexDigit _ cut.0 c.loop-pair.invariant.told c.from_residual.ensures.1 why (no_digit pair tail (omega arith) bad)
 
 pub returns-in_err-second : goal.returns-in_err-second
 returns-in_err-second c =
@@ -26,8 +24,7 @@ returns-in_err-second c =
     let why : c.in_err-second.field-0.0 ≡ OddHexDigits = grind arith in
     let short : length pair < 2 = grind arith in
     let all = cut.1 ∙ (λ i. min (c.loop-pair.invariant.pairs i) (length (cut.0 i))) in
-    let is = err_from_is_err_and c.from_residual-in_err-second.result c.from_residual-in_err-second.ensures.1 in
-    rw (is.1, is.2, why) (refused (vec_items c.loop-pair.bytes) _ pair tail OddHexDigits _ cut.0 c.loop-pair.invariant.told (odd pair tail _ (omega arith) short all high))
+    refused c.from_residual-in_err-second.result (vec_items c.loop-pair.bytes) _ pair tail _ OddHexDigits _ cut.0 c.loop-pair.invariant.told c.from_residual-in_err-second.ensures.1 why (odd pair tail _ (omega arith) short all high)
 
 pub returns-in_err-low : goal.returns-in_err-low
 returns-in_err-low c =
@@ -38,8 +35,7 @@ returns-in_err-low c =
     let long : 1 < length pair = grind arith in
     let bad : None ≡ digit_value (get_or pair 1 0) = grind arith in
     let why : c.in_err-low.field-0.0 ≡ NoHexDigit = grind arith in
-    let is = err_from_is_err_and c.from_residual-in_err-low.result c.from_residual-in_err-low.ensures.1 in
-    rw (is.1, is.2, why) (refused (vec_items c.loop-pair.bytes) _ pair tail NoHexDigit _ cut.0 c.loop-pair.invariant.told (no_second pair tail _ long high bad))
+    refused c.from_residual-in_err-low.result (vec_items c.loop-pair.bytes) _ pair tail _ NoHexDigit _ cut.0 c.loop-pair.invariant.told c.from_residual-in_err-low.ensures.1 why (no_second pair tail _ long high bad)
 
 pub loop-pair-preserved : goal.loop-pair-preserved
 loop-pair-preserved c =
@@ -55,10 +51,10 @@ loop-pair-preserved c =
     record {
       pairs = c.in-Some.ensures.steps.0 ∙ c.loop-pair.invariant.pairs;
       told =
-        ap (λ l. onto l (unhex tail)) (pushed byte refl c.in_ok-push.was c.push.ensures.items)
-        ∙ onto_more old byte (unhex tail)
-        ∙ ap (onto old) (both pair tail _ _ long all high low ∙ ap unhex (sym cut.0))
-        ∙ c.loop-pair.invariant.told
+          ap (λ l. onto l (unhex tail)) (pushed byte refl c.in_ok-push.was c.push.ensures.items)
+          ∙ onto_more old byte (unhex tail)
+          ∙ ap (onto old) (both pair tail _ _ long all high low ∙ ap unhex (sym cut.0))
+          ∙ c.loop-pair.invariant.told;
     }
 
 pub returns : goal.returns

@@ -6,5 +6,5 @@ use Rattle.lines.proofs.hex.decode_hex.Given as goal
 abbrev pub invariant-loop-pair : goal.invariant-loop-pair
 invariant-loop-pair l = record {
   pairs : chunks_size l.pair-iterator ≡ 2;
-  told : onto (vec_items l.bytes) (unhex (chunks_rest l.pair-iterator)) ≡ unhex l.text
+  told : onto (vec_items l.bytes) (unhex (chunks_rest l.pair-iterator)) ≡ unhex l.text;
 }
