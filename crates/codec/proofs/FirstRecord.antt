@@ -10,14 +10,6 @@ use Rattle.bytecode.specs.Records.{Shown, formed, bytes_of}
 use Rattle.bytecode.specs.Refusals.{fault, number}
 use Rattle.codec.specs.Walking.{placed}
 
--- a slice pattern takes the kind, and a cut at the kind's length takes the body
-pub read_first : (bs : List ℕ) (s : Shown) (n : ℕ) (body after : List ℕ) → 0 < length bs → n ≡ body_length (get_or bs 0 0) → n ≤ 254 → n ≤ length bs - 1
-    → Ok s ≡ formed (get_or bs 0 0, body) → body ≡ take n (take (length bs - 1) (drop 1 bs)) → after ≡ drop n (take (length bs - 1) (drop 1 bs)) → Ok (s, after) ≡ read_one bs
-read_first [] s n body after some e known fits is front back = absurd (omega arith)
-read_first (k ∷ rest) s n body after some e known fits is front back =
-    let r = take_rest (k ∷ rest) 1 in
-    grind (arith, nat_tests)
-
 -- a record that is read is as long as the bytes that are gone
 pub read_length : (bs : List ℕ) (x : Read) → read_one bs ≡ Ok x → length bs ≡ length (bytes_of x.0) + length x.1
 read_length [] x e = absurd (let z : ◌≡◌ {A = ℕ} 0 1 = cc in omega arith)
@@ -26,21 +18,12 @@ read_length (k ∷ rest) x e =
     let t = length-take-le (body_length k) rest in
     grind (arith, nat_tests)
 
--- past the end there is no record
-pub no_more : (bs : List ℕ) (place : ℕ) → length bs ≤ place → Err (fault MissingEnd place) ≡ placed place (read_one (drop place bs))
-no_more bs place h = ap (λ l. placed place (read_one l)) (sym (drop_all place bs h))
-
--- a slice from `place` on holds what is left there
-pub from_place : (bs : List ℕ) (place : ℕ) (r : Result Read Reason) → r ≡ read_one (take (length bs - place) (drop place bs)) → r ≡ read_one (drop place bs)
-from_place bs place r e = e ∙ ap read_one (take_rest bs place)
-
 -- where the next record begins
-pub next_place : (bs : List ℕ) (place : ℕ) (x : Read) → place ≤ length bs → Ok x ≡ read_one (drop place bs)
-    → (length bs - length x.1 ≡ place + length (bytes_of x.0)) × (length x.1 ≤ length bs)
-next_place bs place x h e =
+pub next_place : (bs : List ℕ) (place : ℕ) (x : Read) → Ok x ≡ read_one (drop place bs) → length bs - length x.1 ≡ place + length (bytes_of x.0)
+next_place bs place x e =
     let long = read_length (drop place bs) x (sym e) in
     let left = length-drop place bs in
-    (omega arith, omega arith)
+    omega arith
 
 -- what is read stands at the front
 pub read_front : (bs : List ℕ) (x : Read) → read_one bs ≡ Ok x → bytes_of x.0 ++ x.1 ≡ bs

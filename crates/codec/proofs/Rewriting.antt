@@ -1,152 +1,109 @@
 -- What one turn of writing a module again keeps.
-use Rattle.std.proofs.Common.{◌≡◌, ℕ, ◌+◌, ◌≤◌, true, List, [], ◌∷◌, ◌++◌, length, take, drop, Ok, Err, Result, sym, refl, ap, ◌∙◌, subst, append_assoc, arith, length-append, length-drop, take-append-drop}
+use Rattle.std.proofs.Common.{◌≡◌, ℕ, ◌+◌, ◌≤◌, true, List, [], ◌∷◌, ◌++◌, length, take, drop, Ok, Err, sym, refl, ap, ◌∙◌, subst, append_assoc, arith, length-append, length-drop, take-append-drop}
+use Rattle.std.specs.List.{flat_map}
 use Rattle.std.proofs.lemmas.List.{take_at, drop_at, drop-drop, take_all, length-take-le}
 use Rattle.std.proofs.lemmas.Bool.{le-leb}
 use Rattle.bytecode.specs.declared.refusals.Fault.{Fault}
-use Rattle.bytecode.specs.declared.refusals.Reason.{Reason}
 use Rattle.bytecode.specs.Ranges.{in_range}
-use Rattle.codec.specs.FirstRecord.{Read, read_one}
 use Rattle.bytecode.specs.Records.{Shown, bytes_of, formed}
-use Rattle.codec.specs.Walking.{placed}
-use Rattle.codec.specs.Writing.{writing, filled}
-use Rattle.codec.proofs.FirstRecord.{read_front, reads_front}
-use Rattle.grammar.specs.declared.order.Progress.{Progress}
-use Rattle.grammar.proofs.Built.{module_taken}
-use Rattle.grammar.proofs.Steps.{Accepts, over, next, step_from}
 use Rattle.codec.specs.Readable.{written, IsModule}
 use Rattle.codec.specs.Reading.{read_module}
 use Rattle.codec.specs.RoundTrip.{rewriting}
-use Rattle.codec.proofs.Walks.{Met, left, record_inside}
+use Rattle.codec.specs.Walking.{At, placed_from, records_in}
+use Rattle.codec.specs.Writing.{writing, filled}
+use Rattle.codec.proofs.Verdict.{module_cut}
+use Rattle.grammar.specs.declared.order.Progress.{Progress}
+use Rattle.grammar.proofs.Built.{module_taken}
+use Rattle.grammar.proofs.Steps.{Accepts, over, next, step_from}
 
--- records that the writer takes
-abbrev Writable : List Shown → Type 0
-Writable [] = Unit {0}
-Writable (x ∷ xs) = (formed x ≡ Ok x) × (in_range x ≡ true) × Writable xs
+-- records that the writer takes, and whose bytes are these
+abbrev ToWrite : List At → List ℕ → Type 0
+ToWrite [] bs = bs ≡ []
+ToWrite (x ∷ xs) bs = (formed x.1 ≡ Ok x.1) × (in_range x.1 ≡ true) × (rest : List ℕ) × (bs ≡ bytes_of x.1 ++ rest) × ToWrite xs rest
 
-taken_writable : {p : Progress} {xs : List Shown} → Accepts p xs → Writable xs
-taken_writable (over e) = tt
-taken_writable {p} (next {q = q} {x = x} w a further) = (w, (step_from p x q a).ranged, taken_writable further)
+accepted : {p : Progress} {xs : List Shown} → Accepts p xs → (at : ℕ) → ToWrite (placed_from at xs) (written xs)
+unfolding placed_from
+accepted (over e) at = refl
+accepted {p} (next {q = q} {x = x} {xs = xs} w a further) at = (w, (step_from p x q a).ranged, written xs, refl, accepted further (at + length (bytes_of x)))
 
--- the first bytes of the buffer are the module's, up to a place, and the rest is to come
-pub record Rewriting (bs old now : List ℕ) (place used : ℕ) : Type 0 where
-  pub same : used ≡ place
-  pub inside : place ≤ length bs
+-- the first bytes of the buffer are the module's, as many as are used, and the rest is to come
+pub record Rewriting (bs old now : List ℕ) (used : ℕ) (left : List At) : Type 0 where
+  pub inside : used ≤ length bs
   pub room : length bs ≤ length old
-  pub records : List Shown
-  pub writable : Writable records
-  pub bytes : written records ≡ drop place bs
-  pub buffer : now ≡ take place bs ++ drop place old
+  pub to_write : ToWrite left (drop used bs)
+  pub buffer : now ≡ take used bs ++ drop used old
 
-pub begins : {bs : List ℕ} {n : ℕ} (old : List ℕ) (place : ℕ) → IsModule bs n → length bs ≤ length old → place ≡ 0 → Rewriting bs old old place 0
-begins {bs} old place m fits first = subst (λ k. Rewriting bs old old k 0) (sym first) (record {
-  same = refl;
+pub begins : {bs : List ℕ} {n : ℕ} (old : List ℕ) (left : List At) → IsModule bs n → length bs ≤ length old → left ≡ records_in bs → Rewriting bs old old 0 left
+begins {bs} old left m fits e = record {
   inside = omega arith;
   room = fits;
-  records = m.records;
-  writable = taken_writable (module_taken m.records m.allowed);
-  bytes = m.bytes;
+  to_write =
+      let taken = accepted (module_taken m.records m.allowed) 0 in
+      let cut = ap (λ c. placed_from 0 c.records) (module_cut m) in
+      rw (e, cut) (rw m.bytes at taken);
   buffer = refl;
-})
-
-buffer_length : {bs old now : List ℕ} {place used : ℕ} → Rewriting bs old now place used → length now ≡ length old
-buffer_length {bs} {old} {now} {place} g =
-    let i = g.inside in
-    let r = g.room in
-    ap length g.buffer ∙ simp (length-append, length-drop) (omega (arith, length-take-le place bs g.inside))
-
--- the next record that is read is the next to write
-read_is_next : (bs : List ℕ) (x : Shown) (rest : List ℕ) (xs : List Shown) → Writable xs → written xs ≡ bs → read_one bs ≡ Ok (x, rest)
-    → (ys : List Shown) × (formed x ≡ Ok x) × (in_range x ≡ true) × Writable ys × (written ys ≡ rest)
-read_is_next bs x rest [] w e r = absurd (let z : ◌≡◌ {A = ℕ} 0 1 = cc in omega arith)
-read_is_next bs x rest (y ∷ ys) w e r =
-    let read : ◌≡◌ {A = Result Read Reason} (Ok (x, rest)) (Ok (y, written ys)) = sym r ∙ ap read_one (sym e) ∙ reads_front y (written ys) w.0 in
-    let pair : ◌≡◌ {A = Read} (x, rest) (y, written ys) = cc in
-    let same : x ≡ y = ap (λ t. t.0) pair in
-    (ys, subst (λ t. formed t ≡ Ok t) (sym same) w.0, ap in_range same ∙ w.1, w.2, sym (ap (λ t. t.1) pair))
+}
 
 -- one record more of the module in the buffer
-one_more : (bs old : List ℕ) (place : ℕ) (x : Shown) (rest : List ℕ) → place ≤ length bs → bytes_of x ++ rest ≡ drop place bs
-    → filled (take place bs ++ drop place old) place x (Ok (place + length (bytes_of x))) ≡ take (place + length (bytes_of x)) bs ++ drop (place + length (bytes_of x)) old
-one_more bs old place x rest inside front =
+one_more : (bs old : List ℕ) (used : ℕ) (x : Shown) (rest : List ℕ) → used ≤ length bs → drop used bs ≡ bytes_of x ++ rest
+    → filled (take used bs ++ drop used old) used x (Ok (used + length (bytes_of x))) ≡ take (used + length (bytes_of x)) bs ++ drop (used + length (bytes_of x)) old
+one_more bs old used x rest inside front =
     let k = length (bytes_of x) in
-    let lt = length-take-le place bs inside in
-    let la = length-append (take place bs) (bytes_of x) in
-    let whole : (take place bs ++ bytes_of x) ++ rest ≡ bs = append_assoc (take place bs) (bytes_of x) rest ∙ ap (λ l. take place bs ++ l) front ∙ take-append-drop place bs in
-    let more : take (place + k) bs ≡ take place bs ++ bytes_of x = ap (take (place + k)) (sym whole) ∙ take_at (take place bs ++ bytes_of x) rest (place + k) (omega arith) in
-    let before : take place (take place bs ++ drop place old) ≡ take place bs = take_at (take place bs) (drop place old) place lt in
-    let behind : drop (place + k) (take place bs ++ drop place old) ≡ drop (place + k) old =
-    sym (drop-drop k place _) ∙ ap (drop k) (drop_at (take place bs) (drop place old) place lt) ∙ drop-drop k place old in
-    ap (λ l. l ++ (bytes_of x ++ drop (place + k) (take place bs ++ drop place old))) before
-    ∙ ap (λ l. take place bs ++ (bytes_of x ++ l)) behind
-    ∙ sym (append_assoc (take place bs) (bytes_of x) (drop (place + k) old))
-    ∙ ap (λ l. l ++ drop (place + k) old) (sym more)
+    let lt = length-take-le used bs inside in
+    let la = length-append (take used bs) (bytes_of x) in
+    let whole : (take used bs ++ bytes_of x) ++ rest ≡ bs = append_assoc (take used bs) (bytes_of x) rest ∙ ap (λ l. take used bs ++ l) (sym front) ∙ take-append-drop used bs in
+    let more : take (used + k) bs ≡ take used bs ++ bytes_of x = ap (take (used + k)) (sym whole) ∙ take_at (take used bs ++ bytes_of x) rest (used + k) (omega arith) in
+    let before : take used (take used bs ++ drop used old) ≡ take used bs = take_at (take used bs) (drop used old) used lt in
+    let behind : drop (used + k) (take used bs ++ drop used old) ≡ drop (used + k) old =
+    sym (drop-drop k used _) ∙ ap (drop k) (drop_at (take used bs) (drop used old) used lt) ∙ drop-drop k used old in
+    ap (λ l. l ++ (bytes_of x ++ drop (used + k) (take used bs ++ drop used old))) before
+    ∙ ap (λ l. take used bs ++ (bytes_of x ++ l)) behind
+    ∙ sym (append_assoc (take used bs) (bytes_of x) (drop (used + k) old))
+    ∙ ap (λ l. l ++ drop (used + k) old) (sym more)
 
-module _ {bs old now : List ℕ} {place used at : ℕ} {x : Shown} (g : Rewriting bs old now place used) (m : Met bs place at x) where
-  pub fits : writing now used x ≡ Ok (used + length (bytes_of x))
+module _ {bs old now : List ℕ} {used : ℕ} {x : At} {xs : List At} (g : Rewriting bs old now used (x ∷ xs)) where
+  -- the writer takes the next record
+  fits : writing now used x.1 ≡ Ok (used + length (bytes_of x.1))
   fits =
-      let f = read_is_next (drop place bs) x m.rest g.records g.writable g.bytes m.read in
-      let inside = record_inside m g.inside in
-      let long = buffer_length g in
+      let w = g.to_write in
       let r = g.room in
-      let s = g.same in
-      let t = le-leb (used + length (bytes_of x)) (length now) (omega arith) in
-      rw (f.1, f.2, t)
+      let i = g.inside in
+      let left = ap length w.3 ∙ length-append (bytes_of x.1) w.2 in
+      let all = length-drop used bs in
+      let behind = length-drop used old in
+      let front = length-take-le used bs g.inside in
+      let long = ap length g.buffer ∙ length-append (take used bs) (drop used old) in
+      let t = le-leb (used + length (bytes_of x.1)) (length now) (omega arith) in
+      rw (w.0, w.1, t)
 
-  pub onward : Rewriting bs old (filled now used x (Ok (used + length (bytes_of x)))) (place + length (bytes_of x)) (used + length (bytes_of x))
-  onward =
-      let f = read_is_next (drop place bs) x m.rest g.records g.writable g.bytes m.read in
-      let s = g.same in
+  pub no_refusal : (y : Shown) (f : Fault) → y ≡ x.1 → Err f ≡ writing now used y → ⊥
+  no_refusal y f same e = let ok = ap (writing now used) same ∙ fits in let z : ◌≡◌ {A = ℕ} 0 1 = cc in omega arith
+
+  -- one turn: the record was written, and the others are to come
+  pub turn : (y : Shown) (u : ℕ) (after : List ℕ) → y ≡ x.1 → Ok u ≡ writing now used y → after ≡ filled now used y (Ok u) → Rewriting bs old after u xs
+  turn y u after same e is =
+      let w = g.to_write in
+      let ok = ap (writing now used) same ∙ fits in
+      let more : u ≡ used + length (bytes_of x.1) = cc in
+      let long = ap length w.3 ∙ length-append (bytes_of x.1) w.2 in
+      let all = length-drop used bs in
+      let i = g.inside in
+      let left : drop u bs ≡ w.2 = ap (λ k. drop k bs) more ∙ sym (drop-drop (length (bytes_of x.1)) used bs) ∙ ap (drop (length (bytes_of x.1))) w.3 ∙ drop_at (bytes_of x.1) w.2 (length (bytes_of x.1)) refl in
       record {
-        same = omega arith;
-        inside = record_inside m g.inside;
+        inside = omega arith;
         room = g.room;
-        records = f.0;
-        writable = f.3;
-        bytes = f.4 ∙ sym (left m);
+        to_write = subst (ToWrite xs) (sym left) w.4;
         buffer =
-            ap (λ b. filled b used x (Ok (used + length (bytes_of x)))) g.buffer
-            ∙ ap (λ u. filled (take place bs ++ drop place old) u x (Ok (u + length (bytes_of x)))) g.same
-            ∙ one_more bs old place x m.rest g.inside (read_front (drop place bs) (x, m.rest) m.read);
+            is ∙ (λ i. filled (g.buffer i) used (same i) (Ok (more i))) ∙ one_more bs old used x.1 w.2 g.inside w.3
+            ∙ ap (λ k. take k bs ++ drop k old) (sym more);
       }
 
-  -- the writer refuses none of a module's records
-  pub no_refusal : (y : Shown) (f : Fault) → y ≡ x → Err f ≡ writing now used y → ⊥
-  no_refusal y f same e =
-      let ok = fits in
-      let z : ◌≡◌ {A = ℕ} 0 1 = cc (ap (writing now used) same) in
-      omega arith
-
-  -- one turn: y was written, and the buffer and the place went on
-  pub turn : (y : Shown) (u place' : ℕ) (now' : List ℕ) → y ≡ x → Ok u ≡ writing now used y → now' ≡ filled now used y (Ok u) → place' ≡ place + length (bytes_of x)
-      → Rewriting bs old now' place' u
-  turn y u place' now' same wrote filled_so moved =
-      let ok = fits in
-      let n : u ≡ used + length (bytes_of x) = cc (ap (writing now used) same) in
-      let b : now' ≡ filled now used x (Ok (used + length (bytes_of x))) = filled_so ∙ ap (λ t. filled now used t (Ok u)) same ∙ ap (λ t. filled now used x (Ok t)) n in
-      subst (λ t. Rewriting bs old now' place' t) (sym n)
-      (subst (λ t. Rewriting bs old now' t (used + length (bytes_of x))) (sym moved)
-      (subst (λ t. Rewriting bs old t (place + length (bytes_of x)) (used + length (bytes_of x))) (sym b) onward))
-
--- where nothing can be read, no record is left to write
-none_readable : (bs : List ℕ) (place : ℕ) (f : Fault) (xs : List Shown) → Writable xs → written xs ≡ bs → Err f ≡ placed place (read_one bs) → bs ≡ []
-none_readable bs place f [] w e unread = sym e
-none_readable bs place f (y ∷ ys) w e unread =
-    absurd
-    (let read : read_one bs ≡ Ok (y, written ys) = ap read_one (sym e) ∙ reads_front y (written ys) w.0 in
-    let z : ◌≡◌ {A = ℕ} 0 1 = cc (ap (placed place) read) in
-    omega arith)
-
 -- the whole module stands in the buffer then
-pub at_end : {bs old now : List ℕ} {place used : ℕ} (m : List ℕ) (f : Fault) → Rewriting bs old now place used → m ≡ bs → Err f ≡ placed place (read_one (drop place m))
-    → (used ≡ length bs) × (now ≡ bs ++ drop used old)
-at_end {bs} {old} {now} {place} {used} m f g same e =
-    let none_left = none_readable (drop place bs) place f g.records g.writable g.bytes (e ∙ ap (λ l. placed place (read_one (drop place l))) same) in
+pub at_end : {bs old now : List ℕ} {used : ℕ} → Rewriting bs old now used [] → (used ≡ length bs) × (now ≡ bs ++ drop used old)
+at_end {bs} {old} {now} {used} g =
     let i = g.inside in
-    let s = g.same in
-    let whole : place ≡ length bs = omega (arith, length-drop place bs, ap length none_left) in (
-      s ∙ whole,
-      g.buffer ∙ ap (λ k. take k bs ++ drop place old) whole ∙ ap (λ l. l ++ drop place old) (take_all (length bs) bs (omega arith)) ∙ ap (λ k. bs ++ drop k old) (sym s),
-    )
+    let whole : used ≡ length bs = omega (arith, length-drop used bs, ap length g.to_write) in
+    (whole, g.buffer ∙ ap (λ l. l ++ drop used old) (take_all used bs (omega arith)))
 
 pub whole_answer : (bs old : List ℕ) (n u : ℕ) → Ok n ≡ read_module bs → length bs ≤ length old → u ≡ length bs → Ok u ≡ rewriting bs old (read_module bs)
 whole_answer bs old n u e fits same =

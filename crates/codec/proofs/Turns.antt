@@ -1,5 +1,5 @@
 -- What one turn of reading a module keeps.
-use Rattle.std.proofs.Common.{◌≡◌, ℕ, ◌+◌, ◌<◌, ◌≤◌, true, false, List, [], ◌∷◌, length, drop, Ok, Err, Result, sym, refl, ap, ◌∙◌, arith, length-drop}
+use Rattle.std.proofs.Common.{◌≡◌, ℕ, ◌+◌, ◌<◌, ◌≤◌, true, false, List, [], ◌∷◌, length, drop, Ok, Err, Result, MatchResult, sym, refl, ap, ◌∙◌, arith, length-drop}
 use Rattle.std.proofs.lemmas.List.{drop_all}
 use Rattle.std.proofs.lemmas.Bool.{le-leb}
 use Rattle.std.proofs.lemmas.Bool.Decides.{nat_tests}
@@ -44,9 +44,10 @@ module _ {bs : List ℕ} {p : Progress} {n place at : ℕ} {x : Shown} (g : Goin
   first : judged (cut bs) ≡ judging p n place (x ∷ (cut m.rest).records) (cut m.rest).stop
   first = sym g.decides ∙ ap (from p n place) (cut_read (drop place bs) (x, m.rest) m.read)
 
-  pub refused : (why : Reason) → advance p x ≡ Err why → judged (cut bs) ≡ Err (fault why at)
+  pub refused : (r : Result Progress Reason) (f : Fault) → r ≡ advance p x → MatchResult r (λ _. ⊥) (λ why. f ≡ fault why at) → judged (cut bs) ≡ Err f
   unfolding judging
-  refused why a = first ∙ (rw (going, a, m.here))
+  refused (Ok q) f a never = absurd never
+  refused (Err why) f a is = let b = sym a in first ∙ (rw (going, b, is, m.here))
 
   pub onward : (q : Progress) → advance p x ≡ Ok q → Going bs q (n + 1) (place + length (bytes_of x))
   unfolding judging

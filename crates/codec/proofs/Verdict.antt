@@ -1,5 +1,5 @@
 -- The reader's definition says of bytes what they are.
-use Rattle.std.proofs.Common.{◌≡◌, ℕ, zero, suc, ◌+◌, ◌<◌, ◌≤◌, Bool, true, false, cond, leb, List, [], ◌∷◌, ◌++◌, length, Ok, Err, Result, sym, refl, ap, ◌∙◌, append_assoc, append-nil, arith, length-append, MatchResult}
+use Rattle.std.proofs.Common.{◌≡◌, ℕ, zero, suc, ◌+◌, ◌<◌, ◌≤◌, Bool, true, false, cond, leb, List, [], ◌∷◌, ◌++◌, length, Ok, Err, Result, sym, refl, ap, ◌∙◌, subst, append_assoc, append-nil, arith, length-append, MatchResult}
 use Rattle.std.proofs.lemmas.List.{flat_map_more}
 use Rattle.std.proofs.lemmas.Bool.{le-leb, leb-true, leb-false}
 use Rattle.bytecode.specs.declared.refusals.Fault.{Fault}
@@ -157,3 +157,10 @@ reader_complete bs n m =
     let taken = module_taken m.records m.allowed in
     let t = le-leb (length bs) 4096 m.short in
     rw t (ap judged (module_cut m) ∙ judged_taken taken 0 0 ∙ ap Ok (omega (arith, m.counted)))
+
+-- what a reader answers, where it answers as its definition does
+abbrev Answer : List ℕ → Result ℕ Fault → Type 0
+Answer bs r = record { answer : r ≡ read_module bs; means : Verdict bs r; complete : (n : ℕ) → IsModule bs n → r ≡ Ok n }
+
+pub answers : (bs : List ℕ) (r : Result ℕ Fault) → r ≡ read_module bs → Answer bs r
+answers bs r e = record { answer = e; means = subst (Verdict bs) (sym e) (reader_right bs); complete = λ n m. e ∙ reader_complete bs n m }

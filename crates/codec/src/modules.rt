@@ -11,47 +11,29 @@ use grammar::Progress;
 
 pub const MAX_MODULE: usize = 4096;
 
-fn judge(bytes: &[u8]) -> Result<usize, Fault>
-    ensures { result ≡ read_module bytes.now }
-{
-    if bytes.len() > MAX_MODULE {
-        return Err(Fault {
-            reason: Reason::TooLong,
-            place: MAX_MODULE,
-        });
-    }
-    let mut walk = Walk::over(bytes);
-    let mut progress = Progress::START;
-    let mut records = 0;
-    while !progress.is_over() {
-        let placed = walk.next_record()?;
-        match progress.with(&placed.record) {
-            Ok(next) => progress = next,
-            Err(reason) => {
-                return Err(Fault {
-                    reason,
-                    place: placed.place,
-                });
-            }
-        }
-        records += 1;
-    }
-    if walk.place < bytes.len() {
-        return Err(Fault {
-            reason: Reason::BytesAfterEnd,
-            place: walk.place,
-        });
-    }
-    Ok(records)
-}
-
 // How many records the module has, or the first place at which the bytes stop being one.
 pub fn read_module(bytes: &[u8]) -> Result<usize, Fault>
     ensures answer { result ≡ read_module bytes.now }
     ensures means { MatchResult result (IsModule bytes.now) (Refused bytes.now) }
     ensures complete { (n : ℕ) → IsModule bytes.now n → result ≡ Ok n }
 {
-    judge(bytes)
+    if bytes.len() > MAX_MODULE {
+        return Err(Reason::TooLong.at(MAX_MODULE));
+    }
+    let mut walk = Walk::over(bytes);
+    let mut progress = Progress::START;
+    let mut records = 0;
+    while !progress.is_over() {
+        let placed = walk.next_record()?;
+        progress = progress
+            .with(&placed.record)
+            .map_err(|reason| reason.at(placed.place))?;
+        records += 1;
+    }
+    if walk.place < bytes.len() {
+        return Err(Reason::BytesAfterEnd.at(walk.place));
+    }
+    Ok(records)
 }
 
 // Writes the records of a module into a buffer one by one, and answers how many bytes that were.
@@ -63,14 +45,10 @@ pub fn rewrite_module(bytes: &[u8], buffer: &mut [u8]) -> Result<usize, Fault>
 {
     read_module(bytes)?;
     if buffer.len() < bytes.len() {
-        return Err(Fault {
-            reason: Reason::NoRoom,
-            place: 0,
-        });
+        return Err(Reason::NoRoom.at(0));
     }
-    let mut walk = Walk::over(bytes);
     let mut used = 0;
-    while let Ok(placed) = walk.next_record() {
+    for placed in Walk::over(bytes) {
         used = write_record(buffer, used, placed.record.kind(), placed.record.body())?;
     }
     Ok(used)

@@ -10,27 +10,12 @@ pub fn write_record(buffer: &mut [u8], used: usize, kind: u8, body: &[u8]) -> Re
     ensures answer { result ≡ writing buffer.old used (kind, body.now) }
     ensures after { buffer.new ≡ filled buffer.old used (kind, body.now) result }
 {
-    match Record::of(kind, body) {
-        Err(reason) => {
-            return Err(Fault {
-                reason,
-                place: used,
-            });
-        }
-        Ok(checked) => {
-            if !checked.in_range() {
-                return Err(Fault {
-                    reason: Reason::OutOfRange,
-                    place: used,
-                });
-            }
-        }
+    let record = Record::of(kind, body).map_err(|reason| reason.at(used))?;
+    if !record.in_range() {
+        return Err(Reason::OutOfRange.at(used));
     }
-    if used >= buffer.len() || body.len() > buffer.len() - used - 1 {
-        return Err(Fault {
-            reason: Reason::NoRoom,
-            place: used,
-        });
+    if body.len() >= buffer.len().saturating_sub(used) {
+        return Err(Reason::NoRoom.at(used));
     }
     let end = used + 1 + body.len();
     buffer[used] = kind;

@@ -1,10 +1,6 @@
-use Rattle.std.proofs.Common.{◌≡◌, ◌-◌, length}
+use Rattle.codec.specs.Walking.{to_come}
 use Rattle.codec.proofs.Rewriting.{Rewriting}
 use Rattle.codec.proofs.modules.rewrite_module.Given as goal
 
 abbrev pub invariant-loop-placed : goal.invariant-loop-placed
-invariant-loop-placed l =
-    (l.walk.«module».now ≡ l.bytes) × Rewriting l.bytes l.initial.buffer l.buffer l.walk.place l.used
-
-abbrev pub decreases-loop-placed : goal.decreases-loop-placed
-decreases-loop-placed l = length l.bytes - l.walk.place
+invariant-loop-placed l = Rewriting l.bytes l.initial.buffer l.buffer l.used (to_come l.placed-iterator)

@@ -1,6 +1,6 @@
 use Rattle.std.proofs.Common.{◌≡◌, ◌-◌, length}
 use Rattle.codec.proofs.Turns.{Going}
-use Rattle.codec.proofs.modules.judge.Given as goal
+use Rattle.codec.proofs.modules.read_module.Given as goal
 
 abbrev pub invariant-loop-progress : goal.invariant-loop-progress
 invariant-loop-progress l =
