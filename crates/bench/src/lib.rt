@@ -7,7 +7,7 @@ ghost use Rattle.bench.specs.Counted.{count_of};
 
 use codec::read_module;
 
-// How many records the module has, or 0 where it is refused.
+// How many records the module has, or 0 where it is refused: C takes one number for both.
 #[unsafe(no_mangle)]
 pub extern "C" fn bench_read_module(bytes: &[u8]) -> u64
     ensures { result ≡ count_of (read_module bytes.now) }

@@ -1,14 +1,13 @@
 -- The laws of reading one record.
-use Rattle.std.proofs.Common.{◌≡◌, ℕ, ◌+◌, ◌-◌, ◌<◌, ◌≤◌, List, [], ◌∷◌, ◌++◌, length, get_or, take, drop, Ok, Err, Result, sym, ap, ◌∙◌, arith, length-append, length-drop, take-append-drop}
-use Rattle.std.proofs.lemmas.List.{take_rest, take_at, drop_at, drop_all, length-take-le}
+use Rattle.std.proofs.Common.{◌≡◌, ℕ, ◌+◌, List, [], ◌∷◌, ◌++◌, length, Ok, Err, ap, arith, length-append, length-drop, take-append-drop}
+use Rattle.std.proofs.lemmas.List.{take_at, drop_at, length-take-le}
 use Rattle.std.proofs.lemmas.Bool.Decides.{nat_tests}
 use Rattle.bytecode.specs.declared.refusals.Reason.{Reason}
 use Rattle.bytecode.specs.declared.refusals.Reason.TheVariants.{MissingEnd}
 use Rattle.bytecode.specs.Kinds.{body_length}
 use Rattle.codec.specs.FirstRecord.{Read, read_one}
 use Rattle.bytecode.specs.Records.{Shown, formed, bytes_of}
-use Rattle.bytecode.specs.Refusals.{fault, number}
-use Rattle.codec.specs.Walking.{placed}
+use Rattle.bytecode.specs.Refusals.{number}
 
 -- a record that is read is as long as the bytes that are gone
 pub read_length : (bs : List ℕ) (x : Read) → read_one bs ≡ Ok x → length bs ≡ length (bytes_of x.0) + length x.1
@@ -17,13 +16,6 @@ read_length (k ∷ rest) x e =
     let d = length-drop (body_length k) rest in
     let t = length-take-le (body_length k) rest in
     grind (arith, nat_tests)
-
--- where the next record begins
-pub next_place : (bs : List ℕ) (place : ℕ) (x : Read) → Ok x ≡ read_one (drop place bs) → length bs - length x.1 ≡ place + length (bytes_of x.0)
-next_place bs place x e =
-    let long = read_length (drop place bs) x (sym e) in
-    let left = length-drop place bs in
-    omega arith
 
 -- what is read stands at the front
 pub read_front : (bs : List ℕ) (x : Read) → read_one bs ≡ Ok x → bytes_of x.0 ++ x.1 ≡ bs

@@ -1,6 +1,5 @@
 -- What one turn of writing a module again keeps.
 use Rattle.std.proofs.Common.{◌≡◌, ℕ, ◌+◌, ◌≤◌, true, List, [], ◌∷◌, ◌++◌, length, take, drop, Ok, Err, sym, refl, ap, ◌∙◌, subst, append_assoc, arith, length-append, length-drop, take-append-drop}
-use Rattle.std.specs.List.{flat_map}
 use Rattle.std.proofs.lemmas.List.{take_at, drop_at, drop-drop, take_all, length-take-le}
 use Rattle.std.proofs.lemmas.Bool.{le-leb}
 use Rattle.bytecode.specs.declared.refusals.Fault.{Fault}

@@ -64,7 +64,9 @@ takes_first w v (Err f) answer after same =
     (none, (λ i. placed_from (after i) (cut (drop (after i) (same i))).records) ∙ none)
 
 -- fewer records are to come then
-pub progress : (w v : Walk) (r : Result Placed Fault) → YieldsFirstBy shown_at to_come w (result_ok r) v
-    → MakesProgress {S = Walk} {A = Placed} (λ _. ⊤) (item_count to_come) w (result_ok r) v
-progress w v (Ok p) first = let fewer = ap length first in record { on = λ _. (tt, tt, omega arith); keeps = tt; rests = λ _. tt }
-progress w v (Err f) first = record { on = λ _. tt; keeps = tt; rests = λ _. tt }
+pub goes_on : (w v : Walk) (r : Result Placed Fault) → shown_placed r ≡ placed w.place (read_one (drop w.place w.«module».now))
+    → v.place ≡ place_after w.place (shown_placed r) → v.«module».now ≡ w.«module».now → MakesProgress {S = Walk} {A = Placed} (λ _. ⊤) (item_count to_come) w (result_ok r) v
+goes_on w v (Ok p) answer after same =
+    let fewer = ap length (takes_first w v (Ok p) answer after same) in
+    record { on = λ _. (tt, tt, omega arith); keeps = tt; rests = λ _. tt }
+goes_on w v (Err f) answer after same = record { on = λ _. tt; keeps = tt; rests = λ _. tt }

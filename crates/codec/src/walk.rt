@@ -54,6 +54,7 @@ impl<'a> Iterator for Walk<'a> {
 
     ghost remaining = { item_count to_come };
 
+    #[tactic(auto, using(crate::proofs::Walks::takes_first, crate::proofs::Walks::goes_on))]
     fn next(&mut self) -> Option<Placed<'a>> {
         self.next_record().ok()
     }

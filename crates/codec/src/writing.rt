@@ -5,7 +5,7 @@ ghost use Rattle.codec.specs.Writing.{writing, filled};
 use bytecode::{Fault, Reason, Record};
 
 // Writes a record behind the first `used` bytes of the buffer, and answers how many are used then.
-// A refusal leaves the buffer as it was.
+// A refusal leaves the buffer as it was. The buffer is the host's memory, which is fixed and may be used in part, and the kind is any byte that the host hands in.
 pub fn write_record(buffer: &mut [u8], used: usize, kind: u8, body: &[u8]) -> Result<usize, Fault>
     ensures answer { result ≡ writing buffer.old used (kind, body.now) }
     ensures after { buffer.new ≡ filled buffer.old used (kind, body.now) result }

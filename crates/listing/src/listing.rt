@@ -18,7 +18,7 @@ impl fmt::Display for Operands<'_> {
     fn fmt<W: fmt::Write>(&self, f: &mut fmt::Formatter<W>) -> fmt::Result {
         match self.0 {
             Record::Module(body) => write!(f, " {}", module_number(body)),
-            Record::PushBool(body) => write!(f, " {}", body[0] != 0),
+            Record::PushBool([flag]) => write!(f, " {}", *flag != 0),
             Record::Struct(body)
             | Record::Function(body)
             | Record::CopyLoc(body)
@@ -30,14 +30,17 @@ impl fmt::Display for Operands<'_> {
             | Record::Unpack(body)
             | Record::MoveTo(body)
             | Record::MoveFrom(body)
-            | Record::Exists(body) => write!(f, " {}", body[0]),
+            | Record::Exists(body) => {
+                let [number] = body;
+                write!(f, " {number}")
+            }
             Record::Field(body)
             | Record::Param(body)
             | Record::Result(body)
-            | Record::Local(body) => write!(f, " {}", TypeRef::of(body)),
+            | Record::Local(body) => write!(f, " {}", TypeRef::from(body)),
             Record::PushNum(body) | Record::PushAddr(body) => write!(f, " {}", word(body)),
             Record::Call(body) => {
-                let FunctionRef { module, function } = FunctionRef::of(body);
+                let FunctionRef { module, function } = FunctionRef::from(body);
                 write!(f, " {module} {function}")
             }
             Record::End
@@ -62,9 +65,9 @@ impl fmt::Display for Listed<'_> {
     ghost output = { λ x. Some (record_text (x.0.place, shown x.0.«record»)) };
 
     fn fmt<W: fmt::Write>(&self, f: &mut fmt::Formatter<W>) -> fmt::Result {
-        let place = self.0.place;
-        let name = self.0.record.name();
-        let operands = Operands(self.0.record);
+        let Placed { place, record } = self.0;
+        let name = record.name();
+        let operands = Operands(record);
         write!(f, "{place} {name}{operands}")
     }
 }

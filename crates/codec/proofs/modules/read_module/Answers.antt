@@ -2,7 +2,7 @@ use Rattle.std.proofs.Common.{◌≡◌, MatchResult, sym, ◌∙◌, subst, ari
 use Rattle.std.proofs.lemmas.Result.{err_from_is_err_and}
 use Rattle.bytecode.specs.Refusals.{fault}
 use Rattle.codec.specs.Readable.{too_long}
-use Rattle.codec.proofs.Turns.{Going, begins, stopped, refused, onward, nothing_behind, bytes_behind, within}
+use Rattle.codec.proofs.Turns.{Going, stopped, refused, onward, nothing_behind, bytes_behind, within}
 use Rattle.codec.proofs.Verdict.{answers}
 use Rattle.codec.proofs.Walks.{met, record_inside}
 use Rattle.codec.proofs.modules.read_module.Goals as goal
@@ -33,8 +33,7 @@ loop-progress-smaller c =
 
 pub loop-progress-preserved : goal.loop-progress-preserved
 loop-progress-preserved c =
-    let m = met _ _ _ _ _ c.loop-progress.invariant.0 c.in_ok-placed.ensures.answer in
-     (
+    let m = met _ _ _ _ _ c.loop-progress.invariant.0 c.in_ok-placed.ensures.answer in (
       c.in_ok-placed.ensures.same ∙ c.loop-progress.invariant.0,
       subst (Going _ _ _) (sym c.in_ok-placed.ensures.after)
           (onward c.loop-progress.invariant.1 m (sym c.loop-progress-test.ensures) _ (search rules)),

@@ -1,4 +1,4 @@
-use Rattle.std.proofs.Common.{take, sym, ap, ◌∙◌, subst, ◌∷◌, arith, rules}
+use Rattle.std.proofs.Common.{take, sym, ap, ◌∙◌, subst, ◌∷◌, rules}
 use Rattle.std.proofs.lemmas.List.{take_at}
 use Rattle.codec.specs.Walking.{shown_at, to_come}
 use Rattle.codec.proofs.Rewriting.{Rewriting, begins, no_refusal, turn, at_end, whole_answer}
