@@ -87,14 +87,12 @@ impl Store for TableStore {
     fn put(&mut self, key: Key, words: &[u64]) -> Result<(), Refusal> {
         let words = Words::try_from(words)?;
         let pair = Pair { key, words };
-        self.used = insert(self.rows.as_mut_slice(), self.used, pair).map_err(
-            |_| Refusal::AtLimit,
-        )?;
+        self.used = insert(&mut self.rows, self.used, pair).map_err(|_| Refusal::AtLimit)?;
         Ok(())
     }
 
     fn remove(&mut self, key: Key) -> Result<bool, Refusal> {
-        let left = remove(self.rows.as_mut_slice(), self.used, key);
+        let left = remove(&mut self.rows, self.used, key);
         self.used = left.unwrap_or(self.used);
         Ok(left.is_some())
     }

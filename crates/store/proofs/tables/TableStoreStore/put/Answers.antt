@@ -10,8 +10,8 @@ use Rattle.store.proofs.tables.TableStoreStore.put.Goals as goal
 pub invariant_of-self-2 : goal.invariant_of-self-2
 invariant_of-self-2 c =
     let s = c.args.self.now in
-    let v = written_back s.rows _ c.insert.new.rows c.as_mut_slice.ensures.value c.insert.auto.rows in
-    let h = (rw (key_less, c.as_mut_slice.ensures.value) at c.insert.ensures.sorted) s.sorted in
+    let v = written_back s.rows _ c.insert.new.rows c.deref_mut.ensures.value c.insert.auto.rows in
+    let h = (rw (key_less, c.deref_mut.ensures.value) at c.insert.ensures.sorted) s.sorted in
     let r : Ok c.in_ok-self.field-0 ≡ c.insert.result = grind (arith, common_steps) in
     let t = inserted_by s.rows.items _ s.used s.within s.sorted v.1 _ c.in_ok-self.field-0 (r ∙ h.0) (v.0 ∙ h.1) in
     record { within = t.0.inside; few = rw v.1 s.few; sorted = t.0.rise }
@@ -19,8 +19,8 @@ invariant_of-self-2 c =
 pub returns : goal.returns
 returns c =
     let s = c.args.self.now in
-    let v = written_back s.rows _ c.insert.new.rows c.as_mut_slice.ensures.value c.insert.auto.rows in
-    let h = (rw (key_less, c.as_mut_slice.ensures.value) at c.insert.ensures.sorted) s.sorted in
+    let v = written_back s.rows _ c.insert.new.rows c.deref_mut.ensures.value c.insert.auto.rows in
+    let h = (rw (key_less, c.deref_mut.ensures.value) at c.insert.ensures.sorted) s.sorted in
     let r : Ok c.in_ok-self.field-0 ≡ c.insert.result = grind (arith, common_steps) in
     let t = inserted_by s.rows.items _ s.used s.within s.sorted v.1 _ c.in_ok-self.field-0 (r ∙ h.0) (v.0 ∙ h.1) in
     let w = c.in_ok-words.ensures in
@@ -29,8 +29,8 @@ returns c =
 pub returns-in_err-self-clause-answer : goal.returns-in_err-self-clause-answer
 returns-in_err-self-clause-answer c =
     let s = c.args.self.now in
-    let v = written_back s.rows _ c.insert.new.rows c.as_mut_slice.ensures.value c.insert.auto.rows in
-    let h = (rw (key_less, c.as_mut_slice.ensures.value) at c.insert.ensures.sorted) s.sorted in
+    let v = written_back s.rows _ c.insert.new.rows c.deref_mut.ensures.value c.insert.auto.rows in
+    let h = (rw (key_less, c.deref_mut.ensures.value) at c.insert.ensures.sorted) s.sorted in
     let full : is_ok c.insert.result ≡ false = grind (arith, common_steps) in
     let r : c.from_residual-in_err-self.result ≡ Err AtLimit = grind (arith, common_steps) in
     let w = c.in_ok-words.ensures in
