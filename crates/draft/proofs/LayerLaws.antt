@@ -1,126 +1,135 @@
 -- A draft's changes, and the layer that they make.
-use Rattle.std.proofs.Common.{◌≡◌, ℕ, ◌+◌, ◌-◌, ◌<◌, ◌≤◌, Bool, true, false, cond, ◌||◌, ltb, List, [], ◌∷◌, ◌++◌, map, length, get_or, take, drop, replicate, is_some, Some, None, Ok, Err, Option, sym, refl, ap, ◌∙◌, subst, ⊎_elim, arith, length-drop, take-append-drop, length-take}
+use Rattle.std.proofs.Common.{◌≡◌, ℕ, ◌+◌, ◌-◌, ◌<◌, ◌≤◌, min, Bool, true, false, cond, ◌||◌, ltb, List, [], ◌∷◌, ◌++◌, map, length, set, replicate, is_some, Some, None, Ok, Err, Option, Result, is_ok, sym, refl, ap, ◌∙◌, subst, ⊎_elim, arith}
 use Rattle.std.specs.Option.{option_map}
-use Rattle.std.proofs.lemmas.List.{length-map, length-take-le, get_or-take, get_or-map, take_at}
-use Rattle.std.proofs.lemmas.Bool.{lt-ltb, ltb-true, cases_Bool, and_from, both_ways, le-leb}
-use Rattle.table.proofs.Room.{room_was, no_room_was}
-use Rattle.table.specs.declared.edits.Full.{Full}
-use Rattle.table.specs.Editing.{fits as room_for, put_answer as rows_answer, put_after as rows_after}
+use Rattle.std.specs.List.{insert, count_by}
+use Rattle.std.proofs.lemmas.List.{length-map}
+use Rattle.std.proofs.lemmas.List.Sums.{sum_by-cons, count_by-le-length}
+use Rattle.std.proofs.lemmas.Bool.Decides.{nat_tests}
+use Rattle.std.proofs.lemmas.Bool.{lt-ltb, le-ltb, ltb-true, cases_Bool, both_ways, and_parts}
 use Rattle.table.specs.Rows as rows
+use Rattle.table.specs.Searching.{found_sorted}
 use Rattle.table.proofs.Maps.{map-look, map-put}
-use Rattle.table.proofs.Placing.{length_without}
+use Rattle.table.proofs.Placing.{length_without, put-over, put_new}
 use Rattle.table.proofs.Sorting.{sorted-put}
 use Rattle.store.specs.declared.keys.Key.{Key}
+use Rattle.store.specs.declared.refusals.Refusal.{Refusal}
 use Rattle.store.specs.declared.refusals.Refusal.TheVariants.{TooManyTouched}
 use Rattle.store.specs.Keys.{key_before}
 use Rattle.store.specs.Model.{Model, Sound, cap, largest_word, fits, own, may_touch, put_answer, put_after, remove_answer, remove_after}
-use Rattle.store.specs.Pairs.{Entry, key_of, entry, holds, ordered, words_of, shown, put_in}
+use Rattle.store.specs.Pairs.{Entry, key_of, entry, holds, ordered, words_of, padded, shown, put_in}
 use Rattle.store.specs.Orders.{key_order}
 use Rattle.store.specs.TableLaws.{is_some_mapped}
 use Rattle.draft.specs.declared.change.Change.{Change}
 use Rattle.draft.specs.declared.changes.Changes.{Changes}
-use Rattle.draft.specs.Changes.{change_key, changed, rising}
+use Rattle.store.specs.declared.words.Words.{Words}
+use Rattle.store.specs.WordLists.{words_in}
+use Rattle.store.specs.WordLaws.{fits-in}
+use Rattle.draft.specs.Changes.{change_key, changed, rising, words_left}
 use Rattle.draft.specs.Layer.{entries, layer}
-use Rattle.draft.specs.Overlay.{apply, overlay, left, shadow}
-use Rattle.draft.specs.Overlays.{entry-overlay, overlay-put, length-overlay, length-apply, held_later, count_more, some_held}
-use Rattle.draft.specs.Soundness.{ordered-entries, length-entries}
+use Rattle.draft.specs.Overlay.{apply, overlay, left, shadow, adds, takes}
+use Rattle.draft.specs.Overlays.{entry-overlay, overlay-put, length-overlay, length-apply, count_overlay}
+use Rattle.draft.specs.Soundness.{ordered-entries}
 
-pub entry_changes : (c : Changes) (k : Key) → entry k (entries c) ≡ option_map changed (rows.look change_key key_before k (take c.used c.rows))
-entry_changes c k = map-look changed key_of key_before k (take c.used c.rows)
+-- where the search ends: at the record, or where it would be put
+ok_chosen : (b : Bool) (at n : ℕ) → ◌≡◌ {A = Result ℕ ℕ} (Ok at) (cond b (Ok n) (Err n)) → (b ≡ true) × (at ≡ n)
+ok_chosen true at n e = (refl, cc)
+ok_chosen false at n e = absurd (let z : ◌≡◌ {A = ℕ} 0 1 = cc in omega arith)
+
+err_chosen : (b : Bool) (at n : ℕ) → ◌≡◌ {A = Result ℕ ℕ} (Err at) (cond b (Ok n) (Err n)) → (b ≡ false) × (at ≡ n)
+err_chosen true at n e = absurd (let z : ◌≡◌ {A = ℕ} 0 1 = cc in omega arith)
+err_chosen false at n e = (refl, cc)
+
+pub entry_changes : (c : Changes) (k : Key) → entry k (entries c) ≡ option_map changed (rows.look change_key key_before k c.rows.items)
+entry_changes c k = map-look changed key_of key_before k c.rows.items
 
 -- what a draft has at a key: its change, or what lies below
-pub entry-layer : (m : Model) (c : Changes) (k : Key) (o : Option Change) → Sound m → o ≡ rows.look change_key key_before k (take c.used c.rows)
+pub entry-layer : (m : Model) (c : Changes) (k : Key) (o : Option Change) → Sound m → o ≡ rows.look change_key key_before k c.rows.items
     → entry k (overlay (entries c) m.pairs) ≡ shadow (option_map changed o) (entry k m.pairs)
 entry-layer m c k o s e =
     entry-overlay k (entries c) m.pairs (ordered-entries c) s.rises
     ∙ ap (λ z. shadow z (entry k m.pairs)) (entry_changes c k ∙ ap (option_map changed) (sym e))
 
+-- a change has words where it puts them
+pub has_words : (o : Option Words) → is_some o ≡ ltb 0 (length (words_left o))
+has_words None = refl
+has_words (Some w) = sym (and_parts _ _ (fits-in w)).0
+
 some_left : (k : Key) (ws : List ℕ) → ltb 0 (length ws) ≡ is_some (left k ws)
 some_left k [] = refl
 some_left k (w ∷ ws) = lt-ltb 0 (length (w ∷ ws)) (omega arith)
 
-pub count-changed : (c : Change) → c.count ≡ length (take c.count c.words)
-count-changed c = sym (length-take-le _ _ (omega (arith, c.long, c.few)))
-
-words_changed : (c : Change) → c.words ≡ take c.count c.words ++ replicate (16 - length (take c.count c.words)) 0
-words_changed c =
-    let n : length (take c.count c.words) ≡ c.count = sym (count-changed c) in
-    rw n (sym (take-append-drop c.count c.words) ∙ ap (λ z. take c.count c.words ++ z) c.clear)
-
-count_left : (k : Key) (ws : List ℕ) → length ws ≡ length (words_of (left k ws))
-count_left k [] = refl
-count_left k (w ∷ ws) = refl
-
-shown-none : (k : Key) (ws place : List ℕ) → length ws ≡ 0 → place ≡ shown (left k ws) place
-shown-none k [] place e = refl
-shown-none k (w ∷ ws) place e = absurd (omega arith)
-
-shown_some : (k : Key) (ws place : List ℕ) → 0 < length ws → ws ++ replicate (16 - length ws) 0 ≡ shown (left k ws) place
-shown_some k [] place e = absurd (omega arith)
-shown_some k (w ∷ ws) place e = refl
+shown_left : (k : Key) (ws place : List ℕ) → ltb 0 (length ws) ≡ true
+    → (length ws ≡ length (words_of (left k ws))) × (padded ws ≡ shown (left k ws) place)
+shown_left k [] place h = absurd (both_ways false refl h)
+shown_left k (w ∷ ws) place h = (refl, refl)
 
 -- a change that was found
-module _ (m : Model) (d : Changes) (k : Key) (c : Change) (s : Sound m) (e : Some c ≡ rows.look change_key key_before k (take d.used d.rows)) where
-  changed-entry : entry k (overlay (entries d) m.pairs) ≡ left c.key (take c.count c.words)
+module _ (m : Model) (d : Changes) (k : Key) (c : Change) (s : Sound m) (e : Some c ≡ rows.look change_key key_before k d.rows.items) where
+  changed-entry : entry k (overlay (entries d) m.pairs) ≡ left c.key (words_left c.words)
   changed-entry = entry-layer m d k (Some c) s e
 
-  pub has_changed : ltb 0 c.count ≡ holds k (overlay (entries d) m.pairs)
-  has_changed = ap (ltb 0) (count-changed c) ∙ some_left c.key (take c.count c.words) ∙ sym (ap is_some changed-entry)
+  pub has_changed : is_some c.words ≡ holds k (overlay (entries d) m.pairs)
+  has_changed = has_words c.words ∙ some_left c.key (words_left c.words) ∙ sym (ap is_some changed-entry)
 
-  pub count_of_changed : c.count ≡ length (words_of (entry k (overlay (entries d) m.pairs)))
-  count_of_changed = count-changed c ∙ count_left c.key (take c.count c.words) ∙ ap (λ z. length (words_of z)) (sym changed-entry)
+  pub read_words : (w : Words) (place : List ℕ) → c.words ≡ Some w
+      → (length (words_in w) ≡ length (words_of (entry k (overlay (entries d) m.pairs)))) × (padded (words_in w) ≡ shown (entry k (overlay (entries d) m.pairs)) place)
+  read_words w place is =
+      let there : entry k (overlay (entries d) m.pairs) ≡ left c.key (words_in w) = changed-entry ∙ ap (λ z. left c.key (words_left z)) is in
+      rw there (shown_left c.key (words_in w) place (and_parts _ _ (fits-in w)).0)
 
-  pub place_of_words : (place : List ℕ) → 0 < c.count → c.words ≡ shown (entry k (overlay (entries d) m.pairs)) place
-  place_of_words place h =
-      words_changed c ∙ shown_some c.key (take c.count c.words) place (omega (arith, count-changed c)) ∙ ap (λ z. shown z place) (sym changed-entry)
-
-  pub place_of_none : (place : List ℕ) → c.count ≡ 0 → place ≡ shown (entry k (overlay (entries d) m.pairs)) place
-  place_of_none place h = shown-none c.key (take c.count c.words) place (omega (arith, count-changed c)) ∙ ap (λ z. shown z place) (sym changed-entry)
+  pub read_emptied : (place : List ℕ) → c.words ≡ None
+      → (0 ≡ length (words_of (entry k (overlay (entries d) m.pairs)))) × (place ≡ shown (entry k (overlay (entries d) m.pairs)) place)
+  read_emptied place is =
+      let there : entry k (overlay (entries d) m.pairs) ≡ None = changed-entry ∙ ap (λ z. left c.key (words_left z)) is in
+      rw there (refl, refl)
 
 -- no change of a key
-pub unchanged_entry : (m : Model) (d : Changes) (k : Key) → Sound m → None ≡ rows.look change_key key_before k (take d.used d.rows) → entry k m.pairs ≡ entry k (overlay (entries d) m.pairs)
+pub unchanged_entry : (m : Model) (d : Changes) (k : Key) → Sound m → None ≡ rows.look change_key key_before k d.rows.items → entry k m.pairs ≡ entry k (overlay (entries d) m.pairs)
 unchanged_entry m d k s e = sym (entry-layer m d k None s e)
 
 -- the touched keys, by the changes
-pub touched_entries : (c : Changes) (k : Key) → is_some (rows.look own key_before k (map key_of (entries c))) ≡ is_some (rows.look change_key key_before k (take c.used c.rows))
+pub touched_entries : (c : Changes) (k : Key) → is_some (rows.look own key_before k (map key_of (entries c))) ≡ is_some (rows.look change_key key_before k c.rows.items)
 touched_entries c k =
     ap is_some (map-look key_of own key_before k (entries c) ∙ ap (option_map key_of) (entry_changes c k))
-    ∙ is_some_mapped key_of (option_map changed (rows.look change_key key_before k (take c.used c.rows)))
-    ∙ is_some_mapped changed (rows.look change_key key_before k (take c.used c.rows))
+    ∙ is_some_mapped key_of (option_map changed (rows.look change_key key_before k c.rows.items))
+    ∙ is_some_mapped changed (rows.look change_key key_before k c.rows.items)
 
-pub free_entries : (c : Changes) → 64 - c.used ≡ cap - length (map key_of (entries c))
-free_entries c = ap (λ n. 64 - n) (sym (length-map _ _ ∙ length-entries c))
+-- noting a change, by where the search ends
 
--- noting a change
-
-module _ (c : Changes) (x : Change) (new : List Change) where
+module _ (c : Changes) (x : Change) (at : ℕ) where
   abbrev old : List Change
-  old = take c.used c.rows
+  old = c.rows.items
 
-  room_is : room_for change_key key_before c.rows old x ≡ may_touch (Some (map key_of (entries c))) x.key
-  room_is =
-      let u : length old ≡ c.used = length-take-le c.used c.rows (omega (arith, c.long, c.within)) in
-      let v : length (map key_of (entries c)) ≡ c.used = length-map _ _ ∙ length-entries c in
-      let l = c.long in
-      rw (touched_entries, u, v, l)
+  put_noted : (new : List Change) → new ≡ rows.put change_key key_before x old → (rising new ≡ true) × (map changed new ≡ rows.put key_of key_before (changed x) (entries c))
+  put_noted new e =
+      (subst (λ z. rising z ≡ true) (sym e) (sorted-put change_key key_before key_order x old c.sorted), ap (map changed) e ∙ map-put changed key_of key_before x old)
 
-  pub noted : (n : ℕ) → Ok n ≡ rows_answer change_key key_before c.rows old x → new ≡ rows_after change_key key_before c.rows old x → length new ≡ 64
-      → (n ≤ 64) × (rising (take n new) ≡ true) × (true ≡ may_touch (Some (map key_of (entries c))) x.key) × (map changed (take n new) ≡ rows.put key_of key_before (changed x) (entries c))
-  noted n e a long =
-      let t = room_was (room_for change_key key_before c.rows old x) n (length (rows.put change_key key_before x old)) e in
-      let now : new ≡ rows.put change_key key_before x old ++ drop (length (rows.put change_key key_before x old)) c.rows = a ∙ rw t.0 in
-      let front : take n new ≡ rows.put change_key key_before x old = ap (take n) now ∙ take_at _ _ n (sym t.1) in (
-        omega (arith, ap length front, length-take n new, t.1),
-        subst (λ z. rising z ≡ true) (sym front) (sorted-put change_key key_before key_order x old c.sorted),
-        sym t.0 ∙ room_is,
-        ap (map changed) front ∙ map-put changed key_of key_before x old,
-      )
+  -- in the place of that of its key
+  pub noted_over : Ok at ≡ found_sorted change_key key_before x.key old
+      → (rising (set old at x) ≡ true) × (map changed (set old at x) ≡ rows.put key_of key_before (changed x) (entries c)) × (may_touch (Some (map key_of (entries c))) x.key ≡ true)
+  noted_over e =
+      let t = ok_chosen _ _ _ e in
+      let p = put_noted (set old at x) (ap (λ n. set old n x) t.1 ∙ sym (put-over change_key key_before x old t.0)) in
+      let there : is_some (rows.look own key_before x.key (map key_of (entries c))) ≡ true = touched_entries c x.key ∙ t.0 in
+      (p.0, p.1, rw there)
 
-  pub not_noted : (f : Full) → Err f ≡ rows_answer change_key key_before c.rows old x → new ≡ rows_after change_key key_before c.rows old x
-      → (new ≡ c.rows) × (false ≡ may_touch (Some (map key_of (entries c))) x.key)
-  not_noted f e a =
-      let t = no_room_was (room_for change_key key_before c.rows old x) f _ e in
-      (a ∙ rw t, sym t ∙ room_is)
+  absent : Err at ≡ found_sorted change_key key_before x.key old → is_some (rows.look own key_before x.key (map key_of (entries c))) ≡ false
+  absent e = touched_entries c x.key ∙ (err_chosen _ _ _ e).0
+
+  keys : length (map key_of (entries c)) ≡ length old
+  keys = length-map _ _ ∙ length-map _ _
+
+  -- or added
+  pub noted_new : Err at ≡ found_sorted change_key key_before x.key old → length old < 64
+      → (rising (insert old at x) ≡ true) × (map changed (insert old at x) ≡ rows.put key_of key_before (changed x) (entries c)) × (may_touch (Some (map key_of (entries c))) x.key ≡ true)
+  noted_new e room =
+      let t = err_chosen _ _ _ e in
+      let p = put_noted (insert old at x) (ap (λ n. insert old n x) t.1 ∙ sym (put_new change_key key_before x old t.0)) in
+      let gone = absent e in
+      (p.0, p.1, rw gone (lt-ltb _ 64 (omega (arith, keys))))
+
+  pub no_room : Err at ≡ found_sorted change_key key_before x.key old → length old ≡ 64 → may_touch (Some (map key_of (entries c))) x.key ≡ false
+  no_room e full = let gone = absent e in rw gone (le-ltb _ 64 (omega (arith, keys)))
 
 -- the layer with one change more
 model_is : (ps qs : List Entry) (ks js : List Key) (l : ℕ) → ps ≡ qs → ks ≡ js → ◌≡◌ {A = Model} (record { pairs = ps; limit = l; touched = Some ks }) (record { pairs = qs; limit = l; touched = Some js })
@@ -175,10 +184,7 @@ pub room_in_layer : (m : Model) (ts : List Entry) (k : Key) → Sound m → orde
     → (holds k (overlay ts m.pairs) || ltb (length (overlay ts m.pairs)) (m.limit + cap)) ≡ true
 room_in_layer m ts k s o few may =
     let w = s.within in
-    ⊎_elim
-    (λ (h : holds k (overlay ts m.pairs) ≡ true). rw h)
-    (λ (h : holds k (overlay ts m.pairs) ≡ false).
-    let less : length (overlay ts m.pairs) < m.limit + cap =
+    let less : holds k (overlay ts m.pairs) ≡ false → length (overlay ts m.pairs) < m.limit + cap = λ h.
     found_or (entry k ts) _
     (λ e there.
     let absent : is_some (shadow (entry k ts) (entry k m.pairs)) ≡ false = sym (ap is_some (entry-overlay k ts m.pairs o s.rises)) ∙ h in
@@ -187,22 +193,10 @@ room_in_layer m ts k s o few may =
     let untouched : is_some (rows.look own key_before k (map key_of ts)) ≡ false = ap is_some (map-look key_of own key_before k ts) ∙ is_some_mapped key_of (entry k ts) ∙ none in
     let n : length (map key_of ts) ≡ length ts = length-map _ _ in
     omega (arith, may_parts (map key_of ts) k may untouched, length-overlay ts m.pairs)) in
-    rw h (lt-ltb _ _ less))
-    (cases_Bool (holds k (overlay ts m.pairs)))
+    grind (arith, nat_tests)
 
 pub put_taken : (m : Model) (k : Key) (ws : List ℕ) → fits ws ≡ true → may_touch m.touched k ≡ true → (holds k m.pairs || ltb (length m.pairs) m.limit) ≡ true → Ok tt ≡ put_answer m k ws
 put_taken m k ws f t h = rw (f, t, h)
-
-pub fits-changed : (c : Change) (k : Key) (ws : List ℕ) → changed c ≡ (k, ws) → 0 < length ws → fits ws ≡ true
-fits-changed c k ws e l =
-    let n : length ws ≡ c.count = ap (λ (z : Entry). length z.1) (sym e) ∙ sym (count-changed c) in
-    and_from _ _ (lt-ltb 0 (length ws) l) (le-leb (length ws) 16 (omega (arith, c.few)))
-
--- the change at a place, as it is read
-pub change_at : (c : Changes) (i : ℕ) (x : Change) → i < c.used → x ≡ get_or c.rows i x → changed x ≡ get_or (entries c) i (changed x)
-change_at c i x h e =
-    let u : length (take c.used c.rows) ≡ c.used = length-take-le c.used c.rows (omega (arith, c.long, c.within)) in
-    ap changed (e ∙ sym (get_or-take c.used c.rows i x h)) ∙ sym (get_or-map changed (take c.used c.rows) i x (changed x) (omega arith))
 
 pub put_capped : (m : Model) (k : Key) (ws : List ℕ) → fits ws ≡ true → may_touch m.touched k ≡ false → Err TooManyTouched ≡ put_answer m k ws
 put_capped m k ws f t = rw (f, t)
@@ -213,25 +207,29 @@ remove_taken m k h t = rw (h, t)
 pub remove_capped : (m : Model) (k : Key) → holds k m.pairs ≡ true → may_touch m.touched k ≡ false → Err TooManyTouched ≡ remove_answer m k
 remove_capped m k h t = rw (h, t)
 
--- counting the pairs of a layer, change by change from the last
-module _ (m : Model) (d : Changes) (s : Sound m) (i : ℕ) (x : Change) (h : i < d.used) (at : x ≡ get_or d.rows i x) where
-  abbrev later : List Entry
-  later = drop (i + 1) (entries d)
+-- a put and a remove in a layer, by what noting the change answers
+pub put_answered : (m : Model) (ts : List Entry) (k : Key) (ws : List ℕ) → Sound m → ordered ts ≡ true → length ts ≤ 64 → fits ws ≡ true
+    → cond (may_touch (Some (map key_of ts)) k) (Ok tt) (Err TooManyTouched) ≡ put_answer (layer m ts) k ws
+put_answered m ts k ws s o few f = let room = room_in_layer m ts k s o few in grind (arith, nat_tests)
 
-  there : i < length (entries d)
-  there = omega (arith, length-entries d)
+pub put_left : (m : Model) (ts us : List Entry) (k : Key) (ws : List ℕ) (r : Result (Unit {0}) Refusal) → Sound m → ordered ts ≡ true → fits ws ≡ true
+    → us ≡ cond (is_ok r) (put_in k ws ts) ts → layer m us ≡ put_after (layer m ts) k ws r
+put_left m ts us k ws (Ok x) s o f e = layer-put m ts us k ws s o (ltb-true 0 (length ws) (and_parts _ _ f).0) e
+put_left m ts us k ws (Err x) s o f e = ap (layer m) e
 
-  held : holds x.key (overlay later m.pairs) ≡ holds x.key m.pairs
-  held = held_later (entries d) m.pairs i (changed x) (ordered-entries d) s.rises there (change_at d i x h at)
+count_map : {X Y : Type 0} (f : X → Y) (p : Y → Bool) (xs : List X) → count_by p (map f xs) ≡ count_by (λ x. p (f x)) xs
+count_map f p [] = refl
+count_map f p (x ∷ xs) =
+    sum_by-cons (λ y. cond (p y) 1 0) (f x) (map f xs) ∙ ap (λ n. cond (p (f x)) 1 0 + n) (count_map f p xs) ∙ sym (sum_by-cons (λ y. cond (p (f y)) 1 0) x xs)
 
-  pub count_one : (n r : ℕ) (was : Bool) → m.limit + cap ≤ largest_word → n ≡ length (overlay later m.pairs) → was ≡ holds x.key m.pairs
-      → (n < largest_word → (was ≡ true → 0 < n) → r + cond was 1 0 ≡ n + cond (ltb 0 x.count) 1 0) → r ≡ length (overlay (drop i (entries d)) m.pairs)
-  count_one n r was room count is told =
-      let long = length-entries d in
-      let most = d.within in
-      let w = s.within in
-      let less : n < largest_word = omega (arith, length-overlay later m.pairs, length-drop (i + 1) (entries d)) in
-      let some : was ≡ true → 0 < n = λ yes. omega (arith, some_held x.key (overlay later m.pairs) (held ∙ sym is ∙ yes)) in
-      let e1 : ◌≡◌ {A = ℕ} (cond was 1 0) (cond (holds x.key m.pairs) 1 0) = ap (λ z. cond z 1 0) is in
-      let e2 : ◌≡◌ {A = ℕ} (cond (ltb 0 x.count) 1 0) (cond (ltb 0 (length (take x.count x.words))) 1 0) = ap (λ z. cond (ltb 0 z) 1 0) (count-changed x) in
-      omega (arith, e1, e2, count_more (entries d) m.pairs i (changed x) (ordered-entries d) s.rises there (change_at d i x h at), told less some)
+-- the pairs of a layer, counted
+pub size_of_layer : (m : Model) (d : Changes) → Sound m → m.limit + cap ≤ largest_word → (more fewer : ℕ)
+    → more ≡ count_by (λ c. adds m.pairs (changed c)) d.rows.items → fewer ≡ count_by (λ c. takes m.pairs (changed c)) d.rows.items
+    → min (length m.pairs + more) largest_word - fewer ≡ length (overlay (entries d) m.pairs)
+size_of_layer m d s room more fewer a b =
+    let c = count_map changed (adds m.pairs) d.rows.items in
+    let e = count_map changed (takes m.pairs) d.rows.items in
+    let few = count_by-le-length (λ c. adds m.pairs (changed c)) d.rows.items in
+    let most = d.few in
+    let within = s.within in
+    omega (arith, a, b, c, e, few, count_overlay (entries d) m.pairs (ordered-entries d) s.rises)

@@ -1,6 +1,8 @@
 -- A merge that fits is refused nowhere, and leaves below exactly the map that the draft meant.
-use Rattle.std.proofs.Common.{◌≡◌, ℕ, ◌+◌, ◌<◌, ◌≤◌, Bool, true, false, cond, not, ◌&&◌, ◌||◌, eqb, ltb, leb, List, [], ◌∷◌, length, get_or, drop, is_some, Some, None, Ok, Option, sym, refl, ap, ◌∙◌, subst, inl, inr, ⊎_elim, arith}
+use Rattle.std.proofs.Common.{◌≡◌, ℕ, ◌+◌, ◌<◌, ◌≤◌, Bool, true, false, cond, not, ◌&&◌, ◌||◌, eqb, ltb, leb, List, [], ◌∷◌, map, length, get_or, drop, is_some, Some, None, Ok, Option, Result, sym, refl, ap, ◌∙◌, subst, inl, inr, ⊎_elim, arith}
+use Rattle.std.specs.List.{count_by}
 use Rattle.std.proofs.lemmas.List.{drop_more}
+use Rattle.std.proofs.lemmas.List.Sums.{sum_by-cons}
 use Rattle.std.proofs.lemmas.Bool.{cases_Bool, both_ways, and_parts, and_from, leb-true, lt-ltb}
 use Rattle.std.proofs.lemmas.Bool.Decides.{nat_tests}
 use Rattle.table.specs.Rows as rows
@@ -8,10 +10,16 @@ use Rattle.table.proofs.Lookups.{Apart, three, look-above, look-put-same, look_p
 use Rattle.table.proofs.Placing.{length-put, without-none}
 use Rattle.table.proofs.Sorting.{above_chain, sorted-put, sorted-without}
 use Rattle.store.specs.declared.keys.Key.{Key}
+use Rattle.store.specs.declared.refusals.Refusal.{Refusal}
 use Rattle.store.specs.Keys.{key_before}
 use Rattle.store.specs.Model.{Model, fits, own, is_touched, may_touch, touch, put_answer, put_after, remove_answer, remove_after}
 use Rattle.store.specs.Pairs.{Entry, key_of, entry, holds, ordered, put_in, take_out}
 use Rattle.store.specs.Orders.{key_order}
+use Rattle.draft.specs.declared.change.Change.{Change}
+use Rattle.store.specs.declared.words.Words.{Words}
+use Rattle.store.specs.WordLists.{words_in}
+use Rattle.store.specs.WordLaws.{fits-in}
+use Rattle.draft.specs.Changes.{changed, words_left}
 use Rattle.draft.specs.Merging.{each, remove_one, put_one, removing, putting, taken_one, given_one, taking_all, giving_all, merged, touches_anew, touched_anew, cap_holds, merge_fits}
 use Rattle.draft.specs.Overlay.{overlay, left, shadow}
 use Rattle.draft.specs.Overlays.{ordered-overlay, entry-overlay, entry-apply-same, entry_apply_other}
@@ -25,28 +33,16 @@ touches (Some ks) = length ks
 touch_grows : (t : Option (List Key)) (k : Key) → touches t ≤ touches (touch t k)
 unfolding touches
 touch_grows None k = omega arith
-touch_grows (Some ks) k =
-    let h = length-put own key_before k ks in
-    ⊎_elim
-    (λ (y : is_some (rows.look own key_before k ks) ≡ true). omega (arith, rw y at h))
-    (λ (y : is_some (rows.look own key_before k ks) ≡ false). omega (arith, rw y at h))
-    (cases_Bool (is_some (rows.look own key_before k ks)))
+touch_grows (Some ks) k = let h = length-put own key_before k ks in grind (arith, nat_tests)
 
 put_grows : (k : Key) (ws : List ℕ) (ps : List Entry) → length ps ≤ length (put_in k ws ps)
-put_grows k ws ps =
-    let h = length-put key_of key_before (k, ws) ps in
-    ⊎_elim (λ (y : holds k ps ≡ true). omega (arith, rw y at h)) (λ (y : holds k ps ≡ false). omega (arith, rw y at h)) (cases_Bool (holds k ps))
+put_grows k ws ps = let h = length-put key_of key_before (k, ws) ps in grind (arith, nat_tests)
 
 -- a key that is touched in the end may be touched now
 may_touch_now : (t : Option (List Key)) (k : Key) → touches (touch t k) ≤ 64 → may_touch t k ≡ true
 unfolding touches
 may_touch_now None k h = refl
-may_touch_now (Some ks) k h =
-    let l = length-put own key_before k ks in
-    ⊎_elim
-    (λ (y : is_some (rows.look own key_before k ks) ≡ true). rw y)
-    (λ (y : is_some (rows.look own key_before k ks) ≡ false). rw y (lt-ltb (length ks) 64 (omega (arith, rw y at l))))
-    (cases_Bool (is_some (rows.look own key_before k ks)))
+may_touch_now (Some ks) k h = let l = length-put own key_before k ks in grind (arith, nat_tests)
 
 given_grows : (k : Key) (ws : List ℕ) (m : Model) → (length m.pairs ≤ length (given_one k ws m).pairs) × (touches m.touched ≤ touches (given_one k ws m).touched) × ((given_one k ws m).limit ≡ m.limit)
 given_grows k [] m = (omega arith, omega arith, refl)
@@ -60,11 +56,7 @@ giving_grows (e ∷ es) m =
     (omega arith, omega arith, b.2 ∙ a.2)
 
 taken_grows : (k : Key) (ws : List ℕ) (m : Model) → (touches m.touched ≤ touches (taken_one k ws m).touched) × ((taken_one k ws m).limit ≡ m.limit)
-taken_grows k [] m =
-    ⊎_elim
-    (λ (y : holds k m.pairs ≡ true). rw y (touch_grows m.touched k, refl))
-    (λ (y : holds k m.pairs ≡ false). rw y (omega arith, refl))
-    (cases_Bool (holds k m.pairs))
+taken_grows k [] m = let h = touch_grows m.touched k in grind (arith, nat_tests)
 taken_grows k (w ∷ ws) m = (omega arith, refl)
 
 taking_grows : (es : List Entry) (m : Model) → (touches m.touched ≤ touches (taking_all es m).touched) × ((taking_all es m).limit ≡ m.limit)
@@ -81,11 +73,7 @@ put-fits k (w ∷ ws) m f room few_keys =
     let t = may_touch_now m.touched k few_keys in
     let a : fits (w ∷ ws) ≡ true = and_from _ _ (lt-ltb 0 (length (w ∷ ws)) (omega arith)) f in
     let l = length-put key_of key_before (k, w ∷ ws) m.pairs in
-    let h : (holds k m.pairs || ltb (length m.pairs) m.limit) ≡ true =
-    ⊎_elim
-    (λ (y : holds k m.pairs ≡ true). rw y)
-    (λ (y : holds k m.pairs ≡ false). rw y (lt-ltb (length m.pairs) m.limit (omega (arith, rw y at l))))
-    (cases_Bool (holds k m.pairs)) in
+    let h : (holds k m.pairs || ltb (length m.pairs) m.limit) ≡ true = grind (arith, nat_tests) in
     let ok : put_answer m k (w ∷ ws) ≡ Ok tt = rw (a, t, h) in
     ap (put_after m k (w ∷ ws)) ok
 
@@ -99,14 +87,7 @@ puts_fit (e ∷ es) m f room few_keys =
     ap (putting es) same ∙ puts_fit es (given_one e.0 e.1 m) p.1 (omega (arith, one.2)) few_keys
 
 remove-fits : (k : Key) (ws : List ℕ) (m : Model) → touches (taken_one k ws m).touched ≤ 64 → remove_one k ws m ≡ taken_one k ws m
-remove-fits k [] m few_keys =
-    ⊎_elim
-    (λ (y : holds k m.pairs ≡ true).
-    let t = may_touch_now m.touched k (rw y at few_keys) in
-    let ok : remove_answer m k ≡ Ok true = rw (y, t) in
-    ap (remove_after m k) ok ∙ rw y)
-    (λ (y : holds k m.pairs ≡ false). let ok : remove_answer m k ≡ Ok false = rw y in ap (remove_after m k) ok ∙ rw y)
-    (cases_Bool (holds k m.pairs))
+remove-fits k [] m few_keys = let t = may_touch_now m.touched k in grind (arith, nat_tests)
 remove-fits k (w ∷ ws) m few_keys = refl
 
 removes_fit : (es : List Entry) (m : Model) → touches (taking_all es m).touched ≤ 64 → removing es m ≡ taking_all es m
@@ -144,11 +125,7 @@ both_hide (Some e) o = words_hide e.0 e.1 o
 
 -- one remove
 taken_pairs : (k : Key) (m : Model) → (taken_one k [] m).pairs ≡ take_out k m.pairs
-taken_pairs k m =
-    ⊎_elim
-    (λ (y : holds k m.pairs ≡ true). rw y)
-    (λ (y : holds k m.pairs ≡ false). rw y (sym (without-none key_of key_before k m.pairs y)))
-    (cases_Bool (holds k m.pairs))
+taken_pairs k m = let same = without-none key_of key_before k m.pairs in grind (arith, nat_tests)
 
 module _ (k : Key) (m : Model) (s : ordered m.pairs ≡ true) where
   taken_ordered : (ws : List ℕ) → ordered (taken_one k ws m).pairs ≡ true
@@ -230,12 +207,7 @@ merged_pairs ts m o s =
 touch-count : (t : Option (List Key)) (k : Key) → touches (touch t k) ≤ touches t + cond (not (is_touched t k)) 1 0
 unfolding touches
 touch-count None k = omega arith
-touch-count (Some ks) k =
-    let h = length-put own key_before k ks in
-    ⊎_elim
-    (λ (y : is_some (rows.look own key_before k ks) ≡ true). rw y (omega (arith, rw y at h)))
-    (λ (y : is_some (rows.look own key_before k ks) ≡ false). rw y (omega (arith, rw y at h)))
-    (cases_Bool (is_some (rows.look own key_before k ks)))
+touch-count (Some ks) k = let h = length-put own key_before k ks in grind (arith, nat_tests)
 
 -- a touched key stays so
 touched_stays : (t : Option (List Key)) (j k : Key) → is_touched t j ≡ true → is_touched (touch t k) j ≡ true
@@ -284,20 +256,13 @@ takes_less m n b e =
     less (eqb (length e.1) 0) (holds e.0 n.pairs) (is_touched n.touched e.0) (holds e.0 m.pairs) (is_touched m.touched e.0) h t
   where
     less : (z a b c d : Bool) → (a ≡ true → c ≡ true) → (d ≡ true → b ≡ true) → ◌≤◌ (cond (z && (a && not b)) 1 0) (cond (z && (c && not d)) 1 0)
-    less false a b c d f g = omega arith
-    less true false b c d f g = omega arith
-    less true true true c d f g = omega arith
-    less true true false c true f g = absurd (both_ways false refl (g refl))
-    less true true false c false f g = rw (f refl) (omega arith)
+    less z a b c d f g = grind (arith, nat_tests)
 
 gives_less : (m n : Model) → TouchedMore m n → (e : Entry) → ◌≤◌ (cond (gives_anew n e) 1 0) (cond (gives_anew m e) 1 0)
 gives_less m n more e = less (ltb 0 (length e.1)) (is_touched n.touched e.0) (is_touched m.touched e.0) (more e.0)
   where
     less : (z b d : Bool) → (d ≡ true → b ≡ true) → ◌≤◌ (cond (z && not b) 1 0) (cond (z && not d) 1 0)
-    less false b d g = omega arith
-    less true true d g = omega arith
-    less true false true g = absurd (both_ways false refl (g refl))
-    less true false false g = omega arith
+    less z b d g = grind (arith, nat_tests)
 
 taken_less : (m n : Model) → Beyond m n → (es : List Entry) → taken_anew n es ≤ taken_anew m es
 taken_less m n b [] = omega arith
@@ -311,7 +276,7 @@ given_less m n more (e ∷ es) = omega (arith, gives_less m n more e, given_less
 taken_beyond : (k : Key) (ws : List ℕ) (m : Model) → ordered m.pairs ≡ true → Beyond m (taken_one k ws m)
 taken_beyond k [] m s =
     record {
-      touched_more = λ j h. ⊎_elim (λ (y : holds k m.pairs ≡ true). rw y (touched_stays m.touched j k h)) (λ (y : holds k m.pairs ≡ false). rw y h) (cases_Bool (holds k m.pairs));
+      touched_more = λ j h. let t = touched_stays m.touched j k h in grind (arith, nat_tests);
       holds_less = λ j h.
           three key_of key_before key_order j k
           (λ y z. ap is_some (sym (taken_other k m s j [] (inl y))) ∙ h)
@@ -329,11 +294,7 @@ taking_beyond (e ∷ es) m s =
 
 -- how many keys are touched then
 taken_count : (k : Key) (ws : List ℕ) (m : Model) → touches (taken_one k ws m).touched ≤ touches m.touched + cond (takes_anew m (k, ws)) 1 0
-taken_count k [] m =
-    ⊎_elim
-    (λ (y : holds k m.pairs ≡ true). rw y (touch-count m.touched k))
-    (λ (y : holds k m.pairs ≡ false). rw y (omega arith))
-    (cases_Bool (holds k m.pairs))
+taken_count k [] m = let h = touch-count m.touched k in grind (arith, nat_tests)
 taken_count k (w ∷ ws) m = omega arith
 
 taking_count : (es : List Entry) (m : Model) → ordered m.pairs ≡ true → touches (taking_all es m).touched ≤ touches m.touched + taken_anew m es
@@ -372,7 +333,7 @@ merged-count ts m s =
 
 -- a store without a cap counts no touched key
 uncapped_taken : (k : Key) (ws : List ℕ) (m : Model) → m.touched ≡ None → (taken_one k ws m).touched ≡ None
-uncapped_taken k [] m u = ⊎_elim (λ (y : holds k m.pairs ≡ true). rw (y, u)) (λ (y : holds k m.pairs ≡ false). rw y u) (cases_Bool (holds k m.pairs))
+uncapped_taken k [] m u = grind (arith, nat_tests)
 uncapped_taken k (w ∷ ws) m u = u
 
 uncapped_taking : (es : List Entry) (m : Model) → m.touched ≡ None → (taking_all es m).touched ≡ None
@@ -407,25 +368,49 @@ merge_done ts m o s f h =
     ap (putting ts) (removes_fit ts m (omega arith)) ∙ puts_fit ts (taking_all ts m) f (omega (arith, t.1)) keys
 
 -- the loops of a merge, one change more
-pub remove_words : (k : Key) (ws : List ℕ) (m : Model) → 0 < length ws → m ≡ remove_one k ws m
-remove_words k [] m h = absurd (omega arith)
-remove_words k (w ∷ ws) m h = refl
 
-module _ (ts : List Entry) (i : ℕ) (e : Entry) (h : i < length ts) (at : e ≡ get_or ts i e) where
-  next_change : drop i ts ≡ e ∷ drop (i + 1) ts
-  next_change = drop_more ts i e h ∙ ap (λ (z : Entry). z ∷ drop (i + 1) ts) (sym at)
+keeps_putting : (k : Key) (ws : List ℕ) (m : Model) → ltb 0 (length ws) ≡ true → m ≡ remove_one k ws m
+keeps_putting k [] m h = absurd (both_ways false refl h)
+keeps_putting k (w ∷ ws) m h = refl
 
-  pub each_next : (step : Key → List ℕ → Model → Model) (m : Model) → each step (drop i ts) m ≡ each step (drop (i + 1) ts) (step e.0 e.1 m)
-  each_next step m = ap (λ es. each step es m) next_change
+-- a change that takes a pair out is removed, and any other left
+pub removed_step : (c : Change) (m n : Model) (r : Result Bool Refusal) → is_some c.words ≡ false → r ≡ remove_answer m c.key → n ≡ remove_after m c.key r → n ≡ remove_one c.key (words_left c.words) m
+removed_step c m n r h e a = go c.words h
+  where
+    go : (o : Option Words) → is_some o ≡ false → n ≡ remove_one c.key (words_left o) m
+    go None h = a ∙ ap (remove_after m c.key) e
+    go (Some w) h = absurd (both_ways true h refl)
 
-  pub anew_next : (m : Model) → touched_anew m (drop i ts) ≡ cond (touches_anew m e) 1 0 + touched_anew m (drop (i + 1) ts)
-  anew_next m = ap (touched_anew m) next_change
+pub passed_step : (c : Change) (m : Model) → is_some c.words ≡ true → m ≡ remove_one c.key (words_left c.words) m
+passed_step c m h = go c.words h
+  where
+    go : (o : Option Words) → is_some o ≡ true → m ≡ remove_one c.key (words_left o) m
+    go None h = absurd (both_ways false refl h)
+    go (Some w) h = keeps_putting c.key (words_in w) m (and_parts _ _ (fits-in w)).0
 
-pub anew_few : (m : Model) (es : List Entry) → touched_anew m es ≤ length es
-anew_few m [] = omega arith
-anew_few m (e ∷ es) =
-    let ih = anew_few m es in
-    ⊎_elim
-    (λ (y : touches_anew m e ≡ true). rw y (omega arith))
-    (λ (y : touches_anew m e ≡ false). rw y (omega arith))
-    (cases_Bool (touches_anew m e))
+put_words : (k : Key) (ws : List ℕ) (m : Model) → ltb 0 (length ws) ≡ true → put_after m k ws (put_answer m k ws) ≡ put_one k ws m
+put_words k [] m h = absurd (both_ways false refl h)
+put_words k (w ∷ ws) m h = refl
+
+-- a change that puts words is put
+pub given_step : (c : Change) (w : Words) (m n : Model) (ws : List ℕ) (r : Result (Unit {0}) Refusal) → c.words ≡ Some w → ws ≡ words_in w → r ≡ put_answer m c.key ws → n ≡ put_after m c.key ws r
+    → n ≡ put_one c.key (words_left c.words) m
+given_step c w m n ws r is same e a =
+    a ∙ ap (put_after m c.key ws) e ∙ ap (λ z. put_after m c.key z (put_answer m c.key z)) same ∙ put_words c.key (words_in w) m (and_parts _ _ (fits-in w)).0
+    ∙ ap (λ z. put_one c.key (words_left z) m) (sym is)
+
+pub skipped_step : (c : Change) (m : Model) → ((w : Words) → c.words ≡ Some w → ⊥) → m ≡ put_one c.key (words_left c.words) m
+skipped_step c m h = go c.words h
+  where
+    go : (o : Option Words) → ((w : Words) → o ≡ Some w → ⊥) → m ≡ put_one c.key (words_left o) m
+    go None h = refl
+    go (Some w) h = absurd (h w refl)
+
+-- the changes from i on, and that at i
+pub each_next : (cs : List Change) (i : ℕ) (c : Change) → i < length cs → c ≡ get_or cs i c → (step : Key → List ℕ → Model → Model) (m : Model)
+    → each step (map changed (drop i cs)) m ≡ each step (map changed (drop (i + 1) cs)) (step c.key (words_left c.words) m)
+each_next cs i c h at step m = ap (λ z. each step (map changed z) m) (drop_more cs i c h ∙ ap (λ (z : Change). z ∷ drop (i + 1) cs) (sym at))
+
+pub anew_counted : (m : Model) (cs : List Change) → count_by (λ c. touches_anew m (changed c)) cs ≡ touched_anew m (map changed cs)
+anew_counted m [] = refl
+anew_counted m (c ∷ cs) = sum_by-cons (λ x. cond (touches_anew m (changed x)) 1 0) c cs ∙ ap (λ n. cond (touches_anew m (changed c)) 1 0 + n) (anew_counted m cs)

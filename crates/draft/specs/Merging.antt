@@ -1,10 +1,9 @@
 -- What merging does to the store below: removes first, then puts.
-use Rattle.std.specs.Prelude.{ℕ, ◌+◌, Bool, true, cond, not, ◌&&◌, ◌||◌, List, [], ◌∷◌, length, Some, None, Ok, Option, nat_le, nat_lt}
+use Rattle.std.specs.Prelude.{ℕ, ◌+◌, ◌≤◌, Bool, true, cond, not, ◌&&◌, ◌||◌, List, [], ◌∷◌, length, Some, None, Ok, Err, Option, Result, nat_le, nat_lt}
 use Rattle.store.specs.declared.keys.Key.{Key}
-use Rattle.store.specs.Model.{Model, cap, is_touched, put_answer, put_after, remove_answer, remove_after}
+use Rattle.store.specs.Model.{Model, cap, largest_word, is_touched, put_answer, put_after, remove_answer, remove_after}
 use Rattle.store.specs.Pairs.{Entry, holds}
-use Rattle.draft.specs.declared.pass.Pass.{Pass}
-use Rattle.draft.specs.declared.pass.Pass.TheVariants.{Removes, Puts}
+use Rattle.draft.specs.declared.merging.NoFit.{NoFit}
 use Rattle.draft.specs.Overlay.{overlay}
 
 -- the calls of a merge as the store answers them: a change without words is a remove, and one with words a put
@@ -15,11 +14,6 @@ remove_one k (w ∷ ws) m = m
 abbrev pub put_one : Key → List ℕ → Model → Model
 put_one k [] m = m
 put_one k (w ∷ ws) m = put_after m k (w ∷ ws) (put_answer m k (w ∷ ws))
-
--- what a pass makes of one change
-abbrev pub carried : Pass → Key → List ℕ → Model → Model
-carried Removes = remove_one
-carried Puts = put_one
 
 -- a step for each change, in order
 abbrev pub each : (Key → List ℕ → Model → Model) → List Entry → Model → Model
@@ -66,3 +60,15 @@ cap_holds (Some ks) n = nat_le (length ks + n) cap
 -- merging fits: the pairs within the limit below, and the touched keys within the cap where there is one
 abbrev pub merge_fits : List Entry → Model → Bool
 merge_fits ts m = nat_le (length (overlay ts m.pairs)) m.limit && cap_holds m.touched (touched_anew m ts)
+
+-- whether it fits is known: the limit is at least 64 under the largest word
+abbrev pub HasRoomAbove : Model → Type 0
+HasRoomAbove m = m.limit + cap ≤ largest_word
+
+abbrev pub merge_answer : List Entry → Model → Result (Unit {0}) NoFit
+merge_answer ts m = cond (merge_fits ts m) (Ok tt) (Err (record {}))
+
+-- what a merge leaves below, by what it answered: its calls as they are answered, or nothing
+abbrev pub merge_after : List Entry → Model → Result (Unit {0}) NoFit → Model
+merge_after ts m (Ok _) = putting ts (removing ts m)
+merge_after ts m (Err _) = m

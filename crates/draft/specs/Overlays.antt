@@ -1,17 +1,19 @@
 -- What a map holds with changes over it.
-use Rattle.std.specs.Prelude.{◌≡◌, ℕ, ◌+◌, ◌<◌, ◌≤◌, true, false, cond, ltb, List, [], ◌∷◌, length, drop, is_some, None, nat_lt, slice_index_or, refl}
-use Rattle.std.proofs.Common.{sym, ap, ◌∙◌, subst, inl, inr, ⊎_elim, arith}
-use Rattle.std.proofs.lemmas.List.{drop_more}
-use Rattle.std.proofs.lemmas.Bool.{and_parts, cases_Bool, both_ways, lt-ltb}
+use Rattle.std.specs.Prelude.{◌≡◌, ℕ, ◌+◌, ◌≤◌, Bool, true, false, cond, not, ◌&&◌, ltb, List, [], ◌∷◌, length, is_some, None, nat_lt, refl}
+use Rattle.std.specs.List.{count_by}
+use Rattle.std.proofs.Common.{sym, ap, ◌∙◌, inl, inr, ⊎_elim, arith}
+use Rattle.std.proofs.lemmas.List.Sums.{sum_by-cons}
+use Rattle.std.proofs.lemmas.Bool.Decides.{nat_tests}
+use Rattle.std.proofs.lemmas.Bool.{and_parts, cases_Bool, lt-ltb}
 use Rattle.store.specs.declared.keys.Key.{Key}
 use Rattle.store.specs.Keys.{key_before}
 use Rattle.store.specs.Pairs.{Entry, key_of, entry, holds, ordered, put_in}
 use Rattle.store.specs.Orders.{key_order}
 use Rattle.table.specs.Rows as rows
-use Rattle.table.proofs.Sorting.{sorted-put, sorted-without, above_chain, sorted-drop}
+use Rattle.table.proofs.Sorting.{sorted-put, sorted-without, above_chain}
 use Rattle.table.proofs.Lookups.{Apart, three, look-above, look-put-same, look_put_other, look-without-same, look_without_other, same_rows}
 use Rattle.table.proofs.Placing.{length-put, length_without}
-use Rattle.draft.specs.Overlay.{apply, overlay, left, shadow}
+use Rattle.draft.specs.Overlay.{apply, overlay, left, shadow, adds, takes}
 
 pub ordered-apply : (k : Key) (ws : List ℕ) (ps : List Entry) → ordered ps ≡ true → ordered (apply k ws ps) ≡ true
 ordered-apply k [] ps s = sorted-without key_of key_before k ps s
@@ -58,10 +60,7 @@ pub length-apply : (k : Key) (ws : List ℕ) (ps : List Entry) → length (apply
 length-apply k [] ps = omega (arith, length_without key_of key_before k ps)
 length-apply k (w ∷ ws) ps =
     let h = length-put key_of key_before (k, w ∷ ws) ps in
-    ⊎_elim
-    (λ (t : holds k ps ≡ true). let g = rw t at h in omega arith)
-    (λ (t : holds k ps ≡ false). let g = rw t at h in omega arith)
-    (cases_Bool (holds k ps))
+    grind (arith, nat_tests)
 
 pub length-overlay : (es ps : List Entry) → length (overlay es ps) ≤ length ps + length es
 length-overlay [] ps = omega arith
@@ -72,31 +71,25 @@ pub count_apply : (k : Key) (ws : List ℕ) (ps : List Entry) → length (apply 
 count_apply k [] ps = omega (arith, length_without key_of key_before k ps)
 count_apply k (w ∷ ws) ps =
     let h = length-put key_of key_before (k, w ∷ ws) ps in
-    let b : ltb 0 (length (w ∷ ws)) ≡ true = lt-ltb 0 (length (w ∷ ws)) (omega arith) in
-    ⊎_elim
-    (λ (t : holds k ps ≡ true). let g = rw t at h in rw (b, t) (omega arith))
-    (λ (t : holds k ps ≡ false). let g = rw t at h in rw (b, t) (omega arith))
-    (cases_Bool (holds k ps))
+    grind (arith, nat_tests)
 
-pub some_held : (k : Key) (ps : List Entry) → holds k ps ≡ true → 0 < length ps
-some_held k [] h = absurd (both_ways false refl h)
-some_held k (e ∷ ps) h = omega arith
+-- where the others' keys come after that of e, they leave its pair as it was
+pub held_under : (e : Entry) (es ps : List Entry) → ordered (e ∷ es) ≡ true → ordered ps ≡ true → holds e.0 (overlay es ps) ≡ holds e.0 ps
+held_under e es ps s u =
+    let p = and_parts (rows.above key_of key_before e.0 es) (ordered es) s in
+    ap is_some (entry-overlay e.0 es ps p.1 u ∙ ap (λ z. shadow z (entry e.0 ps)) (look-above key_of key_before key_order e.0 es p.0))
 
--- the changes from i on, and that at i
-module _ (es ps : List Entry) (i : ℕ) (e : Entry) (s : ordered es ≡ true) (u : ordered ps ≡ true) (l : i < length es) (at : e ≡ slice_index_or es i e) where
-  split : drop i es ≡ e ∷ drop (i + 1) es
-  split = drop_more es i e l ∙ ap (λ (z : Entry). z ∷ drop (i + 1) es) (sym at)
+one_count : (w h : Bool) → cond h 1 0 + cond (w && not h) 1 0 ≡ cond w 1 0 + cond (not w && h) 1 0
+one_count true true = refl
+one_count true false = refl
+one_count false true = refl
+one_count false false = refl
 
-  later : ordered (e ∷ drop (i + 1) es) ≡ true
-  later = subst (λ (z : List Entry). ordered z ≡ true) split (sorted-drop key_of key_before i es s)
-
-  pub held_later : holds e.0 (overlay (drop (i + 1) es) ps) ≡ holds e.0 ps
-  held_later =
-      let p = and_parts (rows.above key_of key_before e.0 (drop (i + 1) es)) (ordered (drop (i + 1) es)) later in
-      ap is_some (entry-overlay e.0 (drop (i + 1) es) ps p.1 u ∙ ap (λ z. shadow z (entry e.0 ps)) (look-above key_of key_before key_order e.0 (drop (i + 1) es) p.0))
-
-  pub count_more : length (overlay (drop i es) ps) + cond (holds e.0 ps) 1 0 ≡ length (overlay (drop (i + 1) es) ps) + cond (nat_lt 0 (length e.1)) 1 0
-  count_more =
-      let c = count_apply e.0 e.1 (overlay (drop (i + 1) es) ps) in
-      let d = rw held_later at c in
-      rw split d
+-- how many pairs there are under changes: those below, and what is added, without what is taken
+pub count_overlay : (es ps : List Entry) → ordered es ≡ true → ordered ps ≡ true → length (overlay es ps) + count_by (takes ps) es ≡ length ps + count_by (adds ps) es
+count_overlay [] ps s u = refl
+count_overlay (e ∷ es) ps s u =
+    let p = and_parts (rows.above key_of key_before e.0 es) (ordered es) s in
+    let one = one_count (nat_lt 0 (length e.1)) (holds e.0 ps) in
+    let c = rw (held_under e es ps s u) at (count_apply e.0 e.1 (overlay es ps)) in
+    omega (arith, one, c, count_overlay es ps p.1 u, sum_by-cons (λ x. cond (takes ps x) 1 0) e es, sum_by-cons (λ x. cond (adds ps x) 1 0) e es)

@@ -1,14 +1,15 @@
 // Up to 64 changes, one for each touched key, in the order of their keys.
-ghost use Rattle.std.specs.Prelude.{◌≡◌, ◌≤◌, true, length, take};
+// They lie in the draft itself, so making a draft can't want memory. What they mean is the function `entries`, and no
+// model: a model would be the bare list, of which a proof does not know that its keys rise.
+ghost use Rattle.std.specs.Prelude.{◌≡◌, ◌≤◌, true, length};
 ghost use Rattle.draft.specs.Changes.{rising};
 
 use super::change::Change;
+use arrayvec::ArrayVec;
 
 #[derive(Drop)]
 pub struct Changes {
-    pub(crate) rows: [Change; 64],
-    pub(crate) used: usize,
-    ghost long: { length rows ≡ 64 },
-    ghost within: { used ≤ 64 },
-    ghost sorted: { rising (take used rows) ≡ true },
+    pub(crate) rows: ArrayVec<Change, 64>,
+    ghost few: { length rows.items ≤ 64 },
+    ghost sorted: { rising rows.items ≡ true },
 }

@@ -1,6 +1,6 @@
-// Changes made from words, and their keys.
-ghost use Rattle.std.specs.Prelude.{◌≡◌, ◌<◌, [], length, MatchOption};
-ghost use Rattle.draft.specs.Changes.{change_key, changed};
+// The key of a change, and the change that fills a place that is not in use.
+ghost use Rattle.std.specs.Prelude.{◌≡◌, []};
+ghost use Rattle.draft.specs.Changes.{change_key, changed, first_key};
 
 use super::change::Change;
 use store::Key;
@@ -16,32 +16,16 @@ impl Keyed for Change {
     }
 }
 
-impl Change {
-    // The change to at most 16 words.
-    pub(crate) fn to(key: Key, words: &[u64]) -> Option<Change>
-        ensures { MatchOption result (16 < length words.now) (λ c. changed c ≡ (key, words.now)) }
-    {
-        if words.len() > 16 {
-            return None;
-        }
-        let mut all = [0; 16];
-        all[0..words.len()].copy_from_slice(words);
-        Some(Change {
-            key,
-            count: words.len(),
-            words: all,
-        })
-    }
+impl Default for Change {
+    ghost is_default = { λ c. changed c ≡ (first_key, []) };
 
-    // The change that takes the pair of a key out.
-    pub(crate) fn emptied(key: Key) -> Change
-        ensures { changed result ≡ (key, []) }
-    {
-        let words = [0; 16];
-        Change {
-            key,
-            count: 0,
-            words,
-        }
+    // The first of all keys, emptied.
+    fn default() -> Change {
+        let key = Key {
+            address: 0,
+            module: 0,
+            index: 0,
+        };
+        Change { key, words: None }
     }
 }

@@ -1,24 +1,15 @@
 // A draft as a store: it answers for its touched keys, and the store below for the others.
-ghost use Rattle.std.specs.Prelude.{◌≡◌, ◌+◌, ◌<◌, ◌≤◌, true, [], ◌∷◌, if◌then◌else◌, nat_lt};
-ghost use Rattle.store.specs.Model.{largest_word};
+ghost use Rattle.std.specs.Prelude.{◌≡◌, [], ◌∷◌};
+ghost use Rattle.std.specs.List.{count_by};
+ghost use Rattle.draft.specs.Changes.{changed};
 ghost use Rattle.draft.specs.Layer.{entries, layer};
+ghost use Rattle.draft.specs.Overlay.{adds, takes};
 ghost use Rattle.draft.specs.Soundness.{layer_sound};
 
 use super::change::Change;
 use super::changes::Changes;
 use super::drafts::Draft;
-use store::{Key, Refusal, Store};
-
-// One pair more or less, by a change to `count` words of a key that was there or not.
-fn counted(n: u64, count: usize, was: bool) -> u64
-    ensures { n < largest_word → (was ≡ true → 0 < n) → result + (if was then 1 else 0) ≡ n + (if nat_lt 0 count then 1 else 0) }
-{
-    match (count > 0, was) {
-        (true, false) => n.saturating_add(1),
-        (false, true) => n.saturating_sub(1),
-        _ => n,
-    }
-}
+use store::{Key, Refusal, Store, Words};
 
 impl<S: Store> Store for Draft<S> {
     ghost means = { λ d. layer (S.Store.means d.below) (entries d.changes) };
@@ -28,14 +19,9 @@ impl<S: Store> Store for Draft<S> {
     ghost sound = { λ d. layer_sound _ d.changes (S.Store.sound d.below) };
 
     fn size(&self) -> u64 {
-        let mut n = self.below.size();
-        let mut i = self.changes.used;
-        while i > 0 {
-            i -= 1;
-            let change = self.changes.rows[i];
-            n = counted(n, change.count, self.below.has(change.key));
-        }
-        n
+        let more = self.added() as u64;
+        let fewer = self.taken() as u64;
+        self.below.size().saturating_add(more).saturating_sub(fewer)
     }
 
     fn limit(&self) -> u64 {
@@ -44,7 +30,7 @@ impl<S: Store> Store for Draft<S> {
 
     fn has(&self, key: Key) -> bool {
         match self.changes.get(key) {
-            Some(change) => change.count > 0,
+            Some(change) => change.words.is_some(),
             None => self.below.has(key),
         }
     }
@@ -54,49 +40,70 @@ impl<S: Store> Store for Draft<S> {
     }
 
     fn free_touches(&self) -> Option<usize> {
-        Some(64 - self.changes.used)
+        Some(64 - self.changes.as_slice().len())
     }
 
     fn read(&self, key: Key, place: &mut [u64; 16]) -> usize {
         match self.changes.get(key) {
-            Some(change) => {
-                if change.count > 0 {
-                    let words = change.words;
-                    *place = words;
-                }
-                change.count
-            }
+            Some(change) => match &change.words {
+                Some(words) => words.fill(place),
+                None => 0,
+            },
             None => self.below.read(key, place),
         }
     }
 
     fn put(&mut self, key: Key, words: &[u64]) -> Result<(), Refusal> {
-        if words.is_empty() {
-            return Err(Refusal::WrongLength);
-        }
-        let Some(change) = Change::to(key, words) else {
-            return Err(Refusal::WrongLength);
-        };
-        if self.changes.note(change) {
-            Ok(())
-        } else {
-            Err(Refusal::TooManyTouched)
-        }
+        let words = Some(Words::try_from(words)?);
+        self.changes.note(Change { key, words })
     }
 
     fn remove(&mut self, key: Key) -> Result<bool, Refusal> {
         if !self.has(key) {
             return Ok(false);
         }
-        if self.changes.note(Change::emptied(key)) {
-            Ok(true)
-        } else {
-            Err(Refusal::TooManyTouched)
-        }
+        self.changes.note(Change { key, words: None })?;
+        Ok(true)
     }
 }
 
 impl<S: Store> Draft<S> {
+    // Whether a change makes one pair more.
+    fn adds(&self, change: &Change) -> bool
+        ensures { result ≡ adds (S.Store.means self.now.below).pairs (changed change.now) }
+    {
+        change.words.is_some() && !self.below.has(change.key)
+    }
+
+    // Whether it makes one less.
+    fn takes(&self, change: &Change) -> bool
+        ensures { result ≡ takes (S.Store.means self.now.below).pairs (changed change.now) }
+    {
+        change.words.is_none() && self.below.has(change.key)
+    }
+
+    // How many changes put words where there are none below.
+    fn added(&self) -> usize
+        ensures { result ≡ count_by (λ c. adds (S.Store.means self.now.below).pairs (changed c)) self.now.changes.rows.items }
+    {
+        self.changes
+            .as_slice()
+            .iter()
+            .filter(|change| self.adds(change))
+            .count()
+    }
+
+    // How many changes take a pair out that is there below.
+    fn taken(&self) -> usize
+        ensures { result ≡ count_by (λ c. takes (S.Store.means self.now.below).pairs (changed c)) self.now.changes.rows.items }
+    {
+        self.changes
+            .as_slice()
+            .iter()
+            .filter(|change| self.takes(change))
+            .count()
+    }
+
     // A draft that changes nothing.
     pub fn over(below: S) -> Draft<S>
         ensures below { result.below ≡ below }

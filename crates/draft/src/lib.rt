@@ -8,10 +8,10 @@ mod keyed;
 mod layers;
 mod listing;
 mod merging;
-mod pass;
 mod rows;
 mod theorems;
 
 pub use change::Change;
 pub use drafts::Draft;
+pub use merging::NoFit;
 pub use theorems::drafts_hide_what_they_touch;

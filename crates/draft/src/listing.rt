@@ -1,5 +1,5 @@
 // What a draft lists: its touched keys, each with its words or none.
-ghost use Rattle.std.specs.Prelude.{◌≡◌, map, take};
+ghost use Rattle.std.specs.Prelude.{◌≡◌, map};
 ghost use Rattle.draft.specs.Changes.{changed};
 ghost use Rattle.draft.specs.Layer.{entries};
 
@@ -10,16 +10,19 @@ use store::{Key, Store};
 impl Change {
     // The key that was touched.
     pub fn touched(&self) -> Key
-        ensures { result ≡ self.now.key }
+        ensures { result ≡ (changed self.now).0 }
     {
         self.key
     }
 
     // The words that the key has then, or none where its pair is taken out.
     pub fn words(&self) -> &[u64]
-        ensures { result.now ≡ take self.now.count self.now.words }
+        ensures { result.now ≡ (changed self.now).1 }
     {
-        &self.words[0..self.count]
+        match &self.words {
+            Some(words) => words.as_slice(),
+            None => &[],
+        }
     }
 }
 

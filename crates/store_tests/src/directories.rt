@@ -61,12 +61,12 @@ fn what_is_found(rt: HostRuntime) {
         (9, Ok(2), None),
         (65535, Err(3), None),
     ] {
-        assert_eq!(rt; find(&rows, 3, number), place);
-        assert_eq!(rt; next(&rows, 3, number), above);
+        assert_eq!(rt; find(&rows[..3], number), place);
+        assert_eq!(rt; next(&rows[..3], number), above);
     }
-    assert_eq!(rt; find(&rows, 0, 2), Err(0));
-    assert_eq!(rt; find(&rows[0..3], 99, 9), Ok(2));
-    assert_eq!(rt; next(&rows[0..3], 99, 9), None);
+    assert_eq!(rt; find(&rows[..0], 2), Err(0));
+    assert_eq!(rt; find(&rows[..3], 9), Ok(2));
+    assert_eq!(rt; next(&rows[..3], 9), None);
 }
 
 #[test]

@@ -90,8 +90,8 @@ fn zeros_follow_the_words(rt: HostRuntime) -> Result<(), Fail> {
         assert!(rt; draft.put(key(3, 2, 1), &SEVENTEEN_WORDS[0..count]).is_ok());
         let mut place = [7; 16];
         assert_eq!(rt; draft.read(key(3, 2, 1), &mut place), count);
-        for i in 0..16 {
-            assert_eq!(rt; place[i], if i < count { i as u64 + 1 } else { 0 });
+        for (i, word) in place.iter().enumerate() {
+            assert_eq!(rt; *word, if i < count { i as u64 + 1 } else { 0 });
         }
     }
     Ok(())

@@ -1,15 +1,13 @@
 // Changes merged into the store below, one draft over another included.
 use super::parts::{Answer, Call, empty, fill, follow};
-use draft::Draft;
+use draft::{Draft, NoFit};
 use std::test::Fail;
 use store::{Store, TableStore};
 
 // The address of a touched key, and the number of its words.
 fn listed(draft: &Draft<TableStore>, place: usize) -> Option<(u64, usize)> {
-    match draft.touched().get(place) {
-        Some(change) => Some((change.touched().address, change.words().len())),
-        None => None,
-    }
+    let change = draft.touched().get(place)?;
+    Some((change.touched().address, change.words().len()))
 }
 
 #[test]
@@ -19,7 +17,8 @@ fn at_the_limit(rt: HostRuntime) -> Result<(), Fail> {
     let mut draft = Draft::over(below);
     // three pairs are one too many below, and nothing is altered
     follow(&rt, &mut draft, &[(5, Call::Put(1), Answer::Done, 3)]);
-    assert!(rt; !draft.fits_below() && !draft.merge());
+    assert!(rt; !draft.fits_below());
+    assert_eq!(rt; draft.merge(), Err(NoFit));
     // the puts wait for the remove of a larger key, whatever their order
     follow(
         &rt,
@@ -30,7 +29,8 @@ fn at_the_limit(rt: HostRuntime) -> Result<(), Fail> {
             (4, Call::Put(3), Answer::Done, 2),
         ],
     );
-    assert!(rt; draft.fits_below() && draft.merge());
+    assert!(rt; draft.fits_below());
+    assert_eq!(rt; draft.merge(), Ok(()));
     assert_eq!(rt; draft.touched().len(), 0);
     let mut below = draft.into_below();
     follow(
@@ -66,7 +66,7 @@ fn every_touched_key(rt: HostRuntime) -> Result<(), Fail> {
         assert_eq!(rt; listed(&draft, place), Some((address, count)));
     }
     assert_eq!(rt; listed(&draft, 4), None);
-    assert!(rt; draft.merge());
+    assert_eq!(rt; draft.merge(), Ok(()));
     let mut below = draft.into_below();
     follow(
         &rt,
@@ -97,10 +97,10 @@ fn a_draft_over_a_draft(rt: HostRuntime) -> Result<(), Fail> {
             (1, Call::Read, Answer::Words(1), 2),
         ],
     );
-    assert!(rt; upper.merge());
+    assert_eq!(rt; upper.merge(), Ok(()));
     let mut lower = upper.into_below();
     assert_eq!(rt; lower.touched().len(), 3);
-    assert!(rt; lower.merge());
+    assert_eq!(rt; lower.merge(), Ok(()));
     let mut below = lower.into_below();
     follow(
         &rt,
@@ -129,10 +129,12 @@ fn at_the_cap(rt: HostRuntime) -> Result<(), Fail> {
             (101, Call::Put(2), Answer::Done, 65),
         ],
     );
-    assert!(rt; !upper.fits_below() && !upper.merge());
+    assert!(rt; !upper.fits_below());
+    assert_eq!(rt; upper.merge(), Err(NoFit));
     // a key that the draft below lacks is taken out without touching it there
     follow(&rt, &mut upper, &[(101, Call::Remove, Answer::Yes, 64)]);
-    assert!(rt; upper.fits_below() && upper.merge());
+    assert!(rt; upper.fits_below());
+    assert_eq!(rt; upper.merge(), Ok(()));
     let lower = upper.into_below();
     assert_eq!(rt; lower.touched().len(), 64);
     Ok(())

@@ -40,8 +40,10 @@ pub(crate) enum Answer {
     Words(usize),
 }
 
-fn told(yes: bool) -> Answer {
-    if yes { Answer::Yes } else { Answer::No }
+impl From<bool> for Answer {
+    fn from(yes: bool) -> Answer {
+        if yes { Answer::Yes } else { Answer::No }
+    }
 }
 
 pub(crate) fn made<S: Store>(store: &mut S, key: Key, call: Call) -> Answer {
@@ -51,14 +53,14 @@ pub(crate) fn made<S: Store>(store: &mut S, key: Key, call: Call) -> Answer {
             Err(refusal) => Answer::Refused(refusal.number()),
         },
         Call::Remove => match store.remove(key) {
-            Ok(was) => told(was),
+            Ok(was) => Answer::from(was),
             Err(refusal) => Answer::Refused(refusal.number()),
         },
         Call::Read => {
             let mut place = [0; 16];
             Answer::Words(store.read(key, &mut place))
         }
-        Call::Has => told(store.has(key)),
+        Call::Has => Answer::from(store.has(key)),
     }
 }
 

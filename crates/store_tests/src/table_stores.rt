@@ -12,19 +12,9 @@ const TWO_WORDS: [u64; 16] = [5, 6, 0, 0, 0, 0, 0, 0, 0, 0, 0, 0, 0, 0, 0, 0];
 
 const SIXTEEN_WORDS: [u64; 16] = [1, 2, 3, 4, 5, 6, 7, 8, 9, 10, 11, 12, 13, 14, 15, 16];
 
-fn is_key(found: Option<Key>, key: Key) -> bool {
-    match found {
-        Some(k) => k.address == key.address && k.module == key.module && k.index == key.index,
-        None => false,
-    }
-}
-
-// The number of the refusal, or 0 where the pair is put.
-fn put(store: &mut TableStore, key: Key, words: &[u64]) -> u8 {
-    match store.put(key, words) {
-        Ok(()) => 0,
-        Err(refusal) => refusal.number(),
-    }
+// The number of the refusal, where the pair is not put.
+fn refused(store: &mut TableStore, key: Key, words: &[u64]) -> Option<u8> {
+    store.put(key, words).err().map(|refusal| refusal.number())
 }
 
 #[test]
@@ -34,7 +24,7 @@ fn limits(rt: HostRuntime) -> Result<(), Fail> {
         assert_eq!(rt; store.size(), 0);
         assert_eq!(rt; store.limit(), limit);
         assert!(rt; !store.has(key(1, 1, 1)));
-        assert!(rt; store.next(None).is_none());
+        assert_eq!(rt; store.next(None), None);
         assert_eq!(rt; store.into_rows().len() as u64, limit);
     }
     Ok(())
@@ -43,16 +33,16 @@ fn limits(rt: HostRuntime) -> Result<(), Fail> {
 #[test]
 fn words(rt: HostRuntime) -> Result<(), Fail> {
     let mut store = empty(&rt, 2)?;
-    for (given, answer, count, left) in [
-        (&SIXTEEN_WORDS[0..0], 41, 0, OLD),
-        (&SEVENTEEN_WORDS[0..17], 41, 0, OLD),
-        (&ONE_WORD[0..1], 0, 1, ONE_WORD),
-        (&SIXTEEN_WORDS[0..16], 0, 16, SIXTEEN_WORDS),
-        (&TWO_WORDS[0..2], 0, 2, TWO_WORDS),
-        (&SEVENTEEN_WORDS[0..17], 41, 2, TWO_WORDS),
-        (&SEVENTEEN_WORDS[0..16], 0, 16, SIXTEEN_WORDS),
+    for (given, number, count, left) in [
+        (&SIXTEEN_WORDS[0..0], Some(41), 0, OLD),
+        (&SEVENTEEN_WORDS[0..17], Some(41), 0, OLD),
+        (&ONE_WORD[0..1], None, 1, ONE_WORD),
+        (&SIXTEEN_WORDS[0..16], None, 16, SIXTEEN_WORDS),
+        (&TWO_WORDS[0..2], None, 2, TWO_WORDS),
+        (&SEVENTEEN_WORDS[0..17], Some(41), 2, TWO_WORDS),
+        (&SEVENTEEN_WORDS[0..16], None, 16, SIXTEEN_WORDS),
     ] {
-        assert_eq!(rt; put(&mut store, key(8, 7, 6), given), answer);
+        assert_eq!(rt; refused(&mut store, key(8, 7, 6), given), number);
         let mut place = OLD;
         assert_eq!(rt; store.read(key(8, 7, 6), &mut place), count);
         assert_eq!(rt; place, left);
@@ -102,8 +92,8 @@ fn order(rt: HostRuntime) -> Result<(), Fail> {
     ] {
         let k = key(address, module, index);
         assert_eq!(rt;
-            put(&mut store, k, &[address, module as u64, index as u64]),
-            0
+            refused(&mut store, k, &[address, module as u64, index as u64]),
+            None
         );
         assert!(rt; store.has(k) && !store.touches(k) && store.free_touches().is_none());
     }
@@ -118,15 +108,15 @@ fn order(rt: HostRuntime) -> Result<(), Fail> {
         (18446744073709551615, 0, 0),
     ] {
         after = store.next(after);
-        assert!(rt; is_key(after, key(address, module, index)));
+        assert_eq!(rt; after, Some(key(address, module, index)));
         let mut place = OLD;
         assert_eq!(rt; store.read(key(address, module, index), &mut place), 3);
         assert!(rt; place[0] == address && place[1] == module as u64 && place[2] == index as u64);
     }
-    assert!(rt; store.next(after).is_none());
+    assert_eq!(rt; store.next(after), None);
     // from keys that are absent
-    assert!(rt; is_key(store.next(Some(key(0, 0, 0))), key(1, 9, 9)));
-    assert!(rt; is_key(store.next(Some(key(2, 1, 255))), key(2, 300, 0)));
-    assert!(rt; is_key(store.next(Some(key(2, 65535, 0))), key(3, 0, 0)));
+    assert_eq!(rt; store.next(Some(key(0, 0, 0))), Some(key(1, 9, 9)));
+    assert_eq!(rt; store.next(Some(key(2, 1, 255))), Some(key(2, 300, 0)));
+    assert_eq!(rt; store.next(Some(key(2, 65535, 0))), Some(key(3, 0, 0)));
     Ok(())
 }

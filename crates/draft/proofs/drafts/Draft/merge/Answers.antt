@@ -1,28 +1,25 @@
-use Rattle.std.proofs.Common.{take, sym, ap, ◌∙◌}
+use Rattle.std.proofs.Common.{sym, ap, ◌∙◌, map}
 use Rattle.store.specs.Model.{Model}
+use Rattle.draft.specs.Changes.{changed}
 use Rattle.draft.specs.Layer.{entries}
-use Rattle.draft.specs.Merging.{putting}
-use Rattle.draft.proofs.Merges.{merge_done, merged_pairs}
+use Rattle.draft.specs.Merging.{putting, removing}
 use Rattle.draft.specs.Soundness.{ordered-entries, few-changed}
+use Rattle.draft.proofs.Merges.{merge_done, merged_pairs}
 use Rattle.draft.proofs.drafts.Draft.merge.Goals as goal
 
-pub returns : goal.returns
-returns g c =
+pub returns-clause-below : goal.returns-clause-below
+returns-clause-below g c room =
     let d = c.args.self.now in
     let means = g.S.Store.means in
     let m = means d.below in
     let ts = entries d.changes in
-    let rises = (g.met.S.Store.sound d.below).rises in
-    let fit = c.if-not-fits_below.ensures in
-    let calls =
-    ap means c.forget.ensures.below ∙ c.carry_all-2.ensures.below
-    ∙ ap (λ z. putting (entries z) (means c.carry_all.new.self.below)) c.carry_all.ensures.changes
-    ∙ ap (putting ts) c.carry_all.ensures.below in
-    record {
-      answer = fit;
-      calls = calls;
-      below = λ room yes. calls ∙ merge_done ts m (ordered-entries d.changes) rises (few-changed (take d.changes.used d.changes.rows)) (sym (fit room));
-      map = λ room yes. ap (λ (z : Model). z.pairs) (calls ∙ merge_done ts m (ordered-entries d.changes) rises (few-changed (take d.changes.used d.changes.rows)) (sym (fit room))) ∙ merged_pairs ts m (ordered-entries d.changes) rises;
-      changes = c.forget.ensures.empty;
-      under = ap g.S.Store.under c.forget.ensures.below ∙ c.carry_all-2.ensures.under ∙ c.carry_all.ensures.under;
-    }
+    ap means c.forget.ensures.below ∙ c.put_all.ensures.below
+    ∙ ap (λ z. putting (map changed z) (means c.remove_all.new.below)) c.as_slice-2.ensures
+    ∙ ap (putting ts) (c.remove_all.ensures.below ∙ ap (λ z. removing (map changed z) m) c.as_slice.ensures)
+    ∙ merge_done ts m (ordered-entries d.changes) (g.met.S.Store.sound d.below).rises (few-changed d.changes.rows.items) (sym (c.if-not-fits_below.ensures room))
+
+pub returns-clause-map : goal.returns-clause-map
+returns-clause-map g c room =
+    let d = c.args.self.now in
+    ap (λ (z : Model). z.pairs) (returns-clause-below g c room)
+    ∙ merged_pairs (entries d.changes) (g.S.Store.means d.below) (ordered-entries d.changes) (g.met.S.Store.sound d.below).rises

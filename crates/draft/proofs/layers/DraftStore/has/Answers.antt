@@ -5,7 +5,7 @@ use Rattle.draft.proofs.layers.DraftStore.has.Goals as goal
 pub returns-in-Some : goal.returns-in-Some
 returns-in-Some g c =
     let d = c.args.self.now in
-    has_changed (g.S.Store.means d.below) d.changes c.args.key _ (g.met.S.Store.sound d.below) c.in-Some.ensures
+    c.is_some.ensures ∙ has_changed (g.S.Store.means d.below) d.changes c.args.key _ (g.met.S.Store.sound d.below) c.in-Some.ensures
 
 pub returns-in-None : goal.returns-in-None
 returns-in-None g c =
