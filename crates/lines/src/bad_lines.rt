@@ -45,6 +45,7 @@ pub enum LineError {
     OutOfMemory(AllocError),
 }
 
+// By hand, as thiserror's From does not tell a contract which error a `?` gives.
 impl From<BadLine> for LineError {
     ghost from_gives = { λ why error. error ≡ Bad why };
 

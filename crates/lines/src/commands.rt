@@ -9,7 +9,7 @@ use super::hex::decode_hex;
 use super::words::first_word;
 use std::alloc::Global;
 
-#[derive(Drop)]
+#[derive(Debug, Drop)]
 pub enum Command {
     Read(Vec<u8>),
 }
