@@ -1,5 +1,5 @@
 -- The rows of a table store, and what they mean.
-use Rattle.std.specs.Prelude.{◌≡◌, ℕ, ◌≤◌, Bool, true, false, cond, ◌||◌, List, [], ◌∷◌, ◌++◌, map, length, take, drop, is_some, Some, None, Ok, Err, Option, Result, nat_lt, refl}
+use Rattle.std.specs.Prelude.{◌≡◌, ℕ, ◌≤◌, Bool, true, false, ◌||◌, List, [], ◌∷◌, ◌++◌, map, length, take, drop, is_some, Some, None, Ok, Err, Option, Result, nat_lt, refl}
 use Rattle.std.proofs.Common.{sym, ap, ◌∙◌, arith, length-take}
 use Rattle.std.specs.Option.{option_map, unwrap_or}
 use Rattle.std.specs.Result.{is_ok}
@@ -65,14 +65,6 @@ next-meant k rs = ap (option_map key_of) (map_next meant key_of key_before k rs)
 model_is : (ps qs : List Entry) (l m : ℕ) → ps ≡ qs → l ≡ m → ◌≡◌ {A = Model} (record { pairs = ps; limit = l; touched = None }) (record { pairs = qs; limit = m; touched = None })
 model_is ps qs l m p q = rw (p, q)
 
-some_of : (b : Bool) (n m : ℕ) → ◌≡◌ {A = Option ℕ} (Some n) (cond b (Some m) None) → (b ≡ true) × (n ≡ m)
-some_of true n m e = (refl, cc)
-some_of false n m e = absurd (let z : ◌≡◌ {A = ℕ} 0 1 = cc in omega arith)
-
-none_of : (b : Bool) (m : ℕ) → ◌≡◌ {A = Option ℕ} None (cond b (Some m) None) → b ≡ false
-none_of true m e = absurd (let z : ◌≡◌ {A = ℕ} 0 1 = cc in omega arith)
-none_of false m e = refl
-
 -- what the table's insert and remove leave of the rows `old`, of which the first n are in use: `new`, of which the first m are
 module _ (old new : List Pair) (n : ℕ) (within : n ≤ length old) (rises : rising (take n old) ≡ true) (same : length new ≡ length old) where
   abbrev was : Model
@@ -117,16 +109,17 @@ module _ (old new : List Pair) (n : ℕ) (within : n ≤ length old) (rises : ri
       → Lawful (unwrap_or left n) × (Ok (is_some left) ≡ remove_answer was k) × (table_model new (unwrap_or left n) ≡ remove_after was k (Ok (is_some left)))
   removed_by k (Some m) e a =
       let now = rows.without pair_key key_before k (take n old) in
-      let c = some_of (is_some (rows.look pair_key key_before k (take n old))) m (length now) e in
-      let whole : new ≡ now ++ drop (length now) old = a ∙ rw c.0 in
-      let front : take m new ≡ now = ap (take m) whole ∙ take_at now _ m (sym c.1) in
-      let b = has_meant k (take n old) ∙ c.0 in (
-        record { inside = omega (arith, ap length front, length-take m new, c.1); rise = rw front (sorted-without pair_key key_before k (take n old) rises) },
+      let there : is_some (rows.look pair_key key_before k (take n old)) ≡ true = grind arith in
+      let size : m ≡ length now = grind arith in
+      let whole : new ≡ now ++ drop (length now) old = a ∙ rw there in
+      let front : take m new ≡ now = ap (take m) whole ∙ take_at now _ m (sym size) in
+      let b = has_meant k (take n old) ∙ there in (
+        record { inside = omega (arith, ap length front, length-take m new, size); rise = rw front (sorted-without pair_key key_before k (take n old) rises) },
         rw b,
         model_is _ _ _ _ (ap (map meant) front ∙ map-without meant key_of key_before k (take n old)) same,
       )
   removed_by k None e a =
-      let c = none_of (is_some (rows.look pair_key key_before k (take n old))) _ e in
-      let now : new ≡ old = a ∙ rw c in
-      let b = has_meant k (take n old) ∙ c in
+      let none : is_some (rows.look pair_key key_before k (take n old)) ≡ false = grind arith in
+      let now : new ≡ old = a ∙ rw none in
+      let b = has_meant k (take n old) ∙ none in
       (record { inside = omega (arith, same, within); rise = rw now rises }, rw b, ap (λ l. table_model l n) now)

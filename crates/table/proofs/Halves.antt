@@ -126,24 +126,12 @@ module _ {R K : Type 0} (key : R → K) (before : K → K → Bool) where
   -- what is found at the place of a key
   pub hit-place : (k : K) (at : ℕ) (rs : List R) → hit key before k at (drop (place key before k rs) rs) ≡ cond (is_some (look key before k rs)) (Ok at) (Err at)
   hit-place k at [] = refl
-  hit-place k at (r ∷ rs) =
-      ⊎_elim
-      (λ (t : before (key r) k ≡ true). rw t (hit-place k at rs))
-      (λ (t : before (key r) k ≡ false).
-      ⊎_elim
-      (λ (u : before k (key r) ≡ true). rw (t, u))
-      (λ (u : before k (key r) ≡ false). rw (t, u))
-      (cases_Bool (before k (key r))))
-      (cases_Bool (before (key r) k))
+  hit-place k at (r ∷ rs) = grind (arith, hit-place k at rs)
 
   -- a record that does not come before k ends the count
   place_short : (k : K) (xs : List R) (r : R) (rest : List R) → before (key r) k ≡ false → place key before k (xs ++ r ∷ rest) ≡ place key before k xs
   place_short k [] r rest b = rw b
-  place_short k (x ∷ xs) r rest b =
-      ⊎_elim
-      (λ (t : before (key x) k ≡ true). rw t (ap suc (place_short k xs r rest b)))
-      (λ (t : before (key x) k ≡ false). rw t)
-      (cases_Bool (before (key x) k))
+  place_short k (x ∷ xs) r rest b = grind (arith, place_short k xs r rest)
 
   place_none : (k : K) (rs : List R) → length rs ≤ 0 → 0 ≡ place key before k rs
   place_none k [] h = refl

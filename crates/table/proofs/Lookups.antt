@@ -1,5 +1,5 @@
 -- What is found after `put` and `without`, and rows that find the same.
-use Rattle.std.proofs.Common.{◌≡◌, Bool, true, false, cond, ◌⊎◌, List, [], ◌∷◌, is_some, Some, None, sym, refl, ap, ◌∙◌, ⊎_elim}
+use Rattle.std.proofs.Common.{◌≡◌, Bool, true, false, cond, ◌⊎◌, List, [], ◌∷◌, is_some, Some, None, sym, refl, ap, ◌∙◌, ⊎_elim, arith}
 use Rattle.std.proofs.lemmas.Bool.{cases_Bool, both_ways, and_parts}
 use Rattle.table.specs.Order.{Order}
 use Rattle.table.specs.Rows.{above, sorted, look, put, without}
@@ -31,16 +31,7 @@ module _ {R K : Type 0} (key : R → K) (before : K → K → Bool) (laws : Orde
 
   pub look-put-same : (x : R) (rs : List R) → look key before (key x) (put key before x rs) ≡ Some x
   look-put-same x [] = let n = laws.never (key x) in rw (n)
-  look-put-same x (r ∷ rs) =
-      let n = laws.never (key x) in
-      ⊎_elim
-      (λ (t : before (key r) (key x) ≡ true). rw (t, t) (look-put-same x rs))
-      (λ (t : before (key r) (key x) ≡ false).
-      ⊎_elim
-      (λ (u : before (key x) (key r) ≡ true). rw (t, u, n))
-      (λ (u : before (key x) (key r) ≡ false). rw (t, u, n))
-      (cases_Bool (before (key x) (key r))))
-      (cases_Bool (before (key r) (key x)))
+  look-put-same x (r ∷ rs) = grind (arith, laws.never, look-put-same x rs)
 
   pub look_put_other : (j : K) (x : R) (rs : List R) → Apart j (key x) → look key before j (put key before x rs) ≡ look key before j rs
   look_put_other j x [] a = ⊎_elim (λ (h : before j (key x) ≡ true). let t = turn _ _ h in rw (t, h)) (λ (h : before (key x) j ≡ true). rw h) a
@@ -64,11 +55,7 @@ module _ {R K : Type 0} (key : R → K) (before : K → K → Bool) (laws : Orde
 
   pub look-without-same : (k : K) (rs : List R) → sorted key before rs ≡ true → look key before k (without key before k rs) ≡ None
   look-without-same k [] s = refl
-  look-without-same k (r ∷ rs) s =
-      three (key r) k
-      (λ p q. rw (p, p) (look-without-same k rs (rest key before r rs s)))
-      (λ p q. rw (p, q, p, q))
-      (λ e p q. rw (p, q) (look-above k rs (rw e at (head key before r rs s))))
+  look-without-same k (r ∷ rs) s = grind (arith, laws.total, look-above, look-without-same k rs)
 
   pub look_without_other : (j k : K) (rs : List R) → sorted key before rs ≡ true → Apart j k → look key before j (without key before k rs) ≡ look key before j rs
   look_without_other j k [] s a = refl

@@ -1,7 +1,6 @@
 -- Rows of records and the rows of what they stand for.
-use Rattle.std.proofs.Common.{◌≡◌, Bool, true, false, ◌&&◌, List, [], ◌∷◌, map, refl, ap, ⊎_elim}
+use Rattle.std.proofs.Common.{◌≡◌, Bool, ◌&&◌, List, [], ◌∷◌, map, refl, ap, arith}
 use Rattle.std.specs.Option.{option_map}
-use Rattle.std.proofs.lemmas.Bool.{cases_Bool}
 use Rattle.table.specs.Rows.{above, sorted, look, next, first, put, without}
 
 module _ {R E K : Type 0} (f : R → E) (key : E → K) (before : K → K → Bool) where
@@ -10,39 +9,15 @@ module _ {R E K : Type 0} (f : R → E) (key : E → K) (before : K → K → Bo
 
   pub map-look : (k : K) (rs : List R) → look key before k (map f rs) ≡ option_map f (look own before k rs)
   map-look k [] = refl
-  map-look k (r ∷ rs) =
-      ⊎_elim
-      (λ (t : before (own r) k ≡ true). rw t (map-look k rs))
-      (λ (t : before (own r) k ≡ false).
-      ⊎_elim
-      (λ (u : before k (own r) ≡ true). rw (t, u))
-      (λ (u : before k (own r) ≡ false). rw (t, u))
-      (cases_Bool (before k (own r))))
-      (cases_Bool (before (own r) k))
+  map-look k (r ∷ rs) = grind (arith, map-look k rs)
 
   pub map-put : (x : R) (rs : List R) → map f (put own before x rs) ≡ put key before (f x) (map f rs)
   map-put x [] = refl
-  map-put x (r ∷ rs) =
-      ⊎_elim
-      (λ (t : before (own r) (own x) ≡ true). rw t (ap (λ z. f r ∷ z) (map-put x rs)))
-      (λ (t : before (own r) (own x) ≡ false).
-      ⊎_elim
-      (λ (u : before (own x) (own r) ≡ true). rw (t, u))
-      (λ (u : before (own x) (own r) ≡ false). rw (t, u))
-      (cases_Bool (before (own x) (own r))))
-      (cases_Bool (before (own r) (own x)))
+  map-put x (r ∷ rs) = grind (arith, map-put x rs)
 
   pub map-without : (k : K) (rs : List R) → map f (without own before k rs) ≡ without key before k (map f rs)
   map-without k [] = refl
-  map-without k (r ∷ rs) =
-      ⊎_elim
-      (λ (t : before (own r) k ≡ true). rw t (ap (λ z. f r ∷ z) (map-without k rs)))
-      (λ (t : before (own r) k ≡ false).
-      ⊎_elim
-      (λ (u : before k (own r) ≡ true). rw (t, u))
-      (λ (u : before k (own r) ≡ false). rw (t, u))
-      (cases_Bool (before k (own r))))
-      (cases_Bool (before (own r) k))
+  map-without k (r ∷ rs) = grind (arith, map-without k rs)
 
   pub map-above : (k : K) (rs : List R) → above key before k (map f rs) ≡ above own before k rs
   map-above k [] = refl
@@ -54,11 +29,7 @@ module _ {R E K : Type 0} (f : R → E) (key : E → K) (before : K → K → Bo
 
   pub map_next : (k : K) (rs : List R) → next key before k (map f rs) ≡ option_map f (next own before k rs)
   map_next k [] = refl
-  map_next k (r ∷ rs) =
-      ⊎_elim
-      (λ (t : before k (own r) ≡ true). rw t)
-      (λ (t : before k (own r) ≡ false). rw t (map_next k rs))
-      (cases_Bool (before k (own r)))
+  map_next k (r ∷ rs) = grind (arith, map_next k rs)
 
   pub map_first : (rs : List R) → first (map f rs) ≡ option_map f (first rs)
   map_first [] = refl

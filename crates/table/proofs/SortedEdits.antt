@@ -27,11 +27,7 @@ split_rows used old =
 module _ {R K : Type 0} (key : R → K) (before : K → K → Bool) (laws : IsStrictWeakOrder before) where
   place_inside : (k : K) (rs : List R) → is_some (look key before k rs) ≡ true → place key before k rs < length rs
   place_inside k [] h = absurd (both_ways false refl h)
-  place_inside k (r ∷ rs) h =
-      ⊎_elim
-      (λ (t : before (key r) k ≡ true). rw t (let i = place_inside k rs (rw t at h) in omega arith))
-      (λ (t : before (key r) k ≡ false). rw t (omega arith))
-      (cases_Bool (before (key r) k))
+  place_inside k (r ∷ rs) h = grind (arith, place_inside k rs)
 
   module _ (old : List R) (used : ℕ) (x : R) where
     abbrev rs : List R
