@@ -1,17 +1,10 @@
--- The lists that groups stand for.
-use Rattle.std.specs.Prelude.{ℕ, List, [], ◌∷◌, map, vec_items, vec_len}
-use Rattle.groups.specs.declared.grouped.Grouped.{Grouped}
-use Rattle.groups.specs.Spans.{part}
+-- Lists of lists: how many items they have, and what one more in the last does to them.
+use Rattle.std.specs.Prelude.{ℕ, ◌+◌, List, [], ◌∷◌, length}
 
-unfoldable pub groups : {X : Type 0} → Grouped X → List (List X)
-groups g = map (part (vec_items g.items)) (vec_items g.spans)
-
--- how many groups and items there are
-abbrev pub count : {X : Type 0} → Grouped X → ℕ
-count g = vec_len g.spans
-
-abbrev pub size : {X : Type 0} → Grouped X → ℕ
-size g = vec_len g.items
+-- how many items all lists have together
+abbrev pub size : {X : Type 0} → List (List X) → ℕ
+size [] = 0
+size (g ∷ gs) = length g + size gs
 
 -- a list with its last one changed
 abbrev pub last_of : {X : Type 0} → (X → X) → X → List X → List X

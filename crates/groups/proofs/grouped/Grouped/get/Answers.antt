@@ -1,25 +1,32 @@
-use Rattle.std.proofs.Common.{[], map, vec_items, vec_len, sym, arith, rules}
-use Rattle.std.proofs.lemmas.List.{length-map, get_or_past}
-use Rattle.groups.specs.Spans.{part}
-use Rattle.groups.specs.Groups.{groups}
-use Rattle.groups.proofs.Spans.{bound, got}
+use Rattle.std.proofs.Common.{[], vec_items, rules, sym}
+use Rattle.std.proofs.lemmas.List.{get_or_past}
+use Rattle.groups.specs.Starts.{parts}
+use Rattle.groups.proofs.Starts.{part_read, parts-length, IsPart}
 use Rattle.groups.proofs.grouped.Grouped.get.Goals as goal
+use Rattle.groups.proofs.grouped.Grouped.get.Goals.{After-unwrap_or-end}
 
-pub returns-then-i-len : goal.returns-then-i-len
-unfolding groups
-returns-then-i-len g c =
-    sym (get_or_past (map (part (vec_items c.args.self.now.items)) (vec_items c.args.self.now.spans)) c.args.i [] (let o = c.args.self.now.spans.ok.0 in simp length-map (omega arith)))
+-- what is read is a part
+read : (g : _) (c : After-unwrap_or-end g) → IsPart (vec_items c.self.inside.items) (parts (vec_items c.self.inside.items) (vec_items c.self.inside.starts)) c.args.i c.in-Some.start.now c.unwrap_or-end.result
+read g c = part_read _ _ _ _ _ (search rules) (search rules) (search rules) (search rules)
 
-pub overflow_add-end : goal.overflow_add-end
-overflow_add-end g c = let h = bound (vec_len c.args.self.now.items) (vec_items c.args.self.now.spans) c.args.i c.index-span.result.now c.args.self.now.inside (let o = c.args.self.now.spans.ok.0 in omega arith) c.index-span.ensures in search rules
+pub slice_bounds-result-start : goal.slice_bounds-result-start
+slice_bounds-result-start g c = let h = read g (goal.at.slice_bounds-result-start g c).After-unwrap_or-end in search rules
+
+pub slice_bounds-result-end : goal.slice_bounds-result-end
+slice_bounds-result-end g c = let h = read g (goal.at.slice_bounds-result-end g c).After-unwrap_or-end in search rules
+
+pub slice_bounds-result-count : goal.slice_bounds-result-count
+slice_bounds-result-count g c = let h = read g (goal.at.slice_bounds-result-count g c).After-unwrap_or-end in search rules
 
 pub offset_bounds-deref-start : goal.offset_bounds-deref-start
-offset_bounds-deref-start g c = let h = bound (vec_len c.args.self.now.items) (vec_items c.args.self.now.spans) c.args.i c.index-span.result.now c.args.self.now.inside (let o = c.args.self.now.spans.ok.0 in omega arith) c.index-span.ensures in search rules
+offset_bounds-deref-start g c = let h = read g (goal.at.offset_bounds-deref-start g c).After-unwrap_or-end in search rules
 
-pub slice_bounds-result-end-2 : goal.slice_bounds-result-end-2
-slice_bounds-result-end-2 g c = let h = bound (vec_len c.args.self.now.items) (vec_items c.args.self.now.spans) c.args.i c.index-span.result.now c.args.self.now.inside (let o = c.args.self.now.spans.ok.0 in omega arith) c.index-span.ensures in search rules
+pub returns-in-Some : goal.returns-in-Some
+returns-in-Some g c = let h = read g (goal.at.returns-in-Some g c).After-unwrap_or-end in search rules
 
-pub returns : goal.returns
-unfolding groups
-returns g c =
-    let e = got (vec_items c.args.self.now.items) (vec_items c.args.self.now.spans) c.args.i c.index-span.result.now (let o = c.args.self.now.spans.ok.0 in omega arith) c.index-span.ensures in search rules
+pub returns-in-None : goal.returns-in-None
+returns-in-None g c =
+    let xs = vec_items c.self.inside.items in
+    let ss = vec_items c.self.inside.starts in
+    let l = parts-length xs ss in
+    rw (← c.self.view_is) (sym (get_or_past (parts xs ss) c.args.i [] (search rules)))

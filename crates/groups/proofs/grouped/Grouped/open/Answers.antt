@@ -1,23 +1,23 @@
-use Rattle.std.proofs.Common.{◌≡◌, true, map, vec_items, vec_len, sym, ap, ◌∙◌, subst, arith}
-use Rattle.groups.specs.Groups.{groups}
-use Rattle.groups.specs.Spans.{part, tight}
-use Rattle.groups.proofs.Spans.{tight_push, tight-inside, opened}
+use Rattle.std.proofs.Common.{vec_items, length, ap, arith}
+use Rattle.groups.proofs.Starts.{parts-length, tiled_open, parts_open}
 use Rattle.groups.proofs.grouped.Grouped.open.Goals as goal
+
+pub push_reserved-requires : goal.push_reserved-requires
+push_reserved-requires g c =
+    let l = parts-length (vec_items c.self.inside.items) (vec_items c.self.inside.starts) in
+    let v = ap length c.self.view_is in
+    let o = c.self.inside.starts.ok.0 in
+    omega arith
 
 pub invariant_of-self : goal.invariant_of-self
 invariant_of-self g c =
-    let n = vec_len c.args.self.now.items in
-    let ss = vec_items c.args.self.now.spans in record {
-      inside = subst (λ l. tight n l ≡ true) (sym c.push_reserved.ensures.items) (tight_push n ss _ (tight-inside n ss c.args.self.now.inside) (omega arith));
-      room = (omega arith, omega arith);
-    }
+    let t = tiled_open (length (vec_items c.self.inside.items)) (vec_items c.self.inside.starts) c.self.invariant.0 in
+    let o = c.self.inside.items.ok.0 in
+    let e = c.push_reserved.ensures.items in
+    rw (e, c.len.ensures, o) (t, omega arith, omega arith)
 
 pub returns : goal.returns
-unfolding groups
-returns g c = record {
-  after =
-      ap (map (part (vec_items c.args.self.now.items))) c.push_reserved.ensures.items
-      ∙ opened (vec_items c.args.self.now.items) (vec_items c.args.self.now.spans) c.len-start.result;
-  count = omega arith;
-  size = omega arith;
-}
+returns g c =
+    let h = parts_open (vec_items c.self.inside.items) (vec_items c.self.inside.starts) in
+    let o = c.self.inside.items.ok.0 in
+    rw (c.push_reserved.ensures.items, c.len.ensures, o, ← c.self.view_is) h
