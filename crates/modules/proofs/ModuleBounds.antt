@@ -9,13 +9,13 @@ use Rattle.bytecode.specs.Ranges.{in_range}
 use Rattle.bytecode.specs.Records.{Shown, bytes_of}
 use Rattle.codec.specs.Readable.{written, IsModule}
 use Rattle.codec.specs.Reading.{read_module}
-use Rattle.codec.specs.Walking.{At}
+use Rattle.codec.specs.Walking.{At, placed_from}
 use Rattle.codec.proofs.Verdict.{Verdict, reader_right, module_cut}
 use Rattle.grammar.specs.declared.order.Part.TheVariants.{Module, Struct, Field, Function, Param, Result as Answer, Local, Code, End}
 use Rattle.grammar.specs.Grammar.{Is, Rows, no_more, and, StructRow, FunctionRow, ModuleRow}
 use Rattle.modules.specs.Bounds.{SizedStruct, SizedFunction, Bounded, ReadableModulesAreBounded}
 use Rattle.modules.specs.Modules as defs
-use Rattle.modules.specs.Modules.{is_kind, placed_from, up_to, sections, struct_of, function_of, field_in, param_in, result_in, local_in, line_in, number_from, said, module_in, decoded}
+use Rattle.modules.specs.Modules.{is_kind, up_to, sections, struct_of, function_of, field_in, param_in, result_in, local_in, line_in, number_from, said, module_in, decoded}
 use Rattle.modules.proofs.PartLaws.{other_part, is_kind_lem, names-none, no_line, code_names_none}
 use Rattle.modules.proofs.PlaceLaws.{places_inside, structs_inside, functions_inside}
 use Rattle.modules.proofs.Sizes.{Behind, Structs, Functions, structs_sized, functions_sized, silent, through, placed-append, placed_of, each_of, Without}

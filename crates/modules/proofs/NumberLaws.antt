@@ -8,9 +8,9 @@ use Rattle.bytecode.specs.Kinds.{body_length, known}
 use Rattle.bytecode.specs.Records.{Shown, bytes_of}
 use Rattle.codec.specs.FirstRecord.{Read, read_one}
 use Rattle.codec.specs.Reading.{cutting, on_read}
-use Rattle.codec.specs.Walking.{At}
+use Rattle.codec.specs.Walking.{At, placed_from}
 use Rattle.modules.specs.Bounds.{ModuleNumbersFit}
-use Rattle.modules.specs.Modules.{is_kind, body_of, placed_from, number_from}
+use Rattle.modules.specs.Modules.{is_kind, body_of, number_from}
 
 abbrev Bytes : List ℕ → Type 0
 Bytes bs = AllByRecursion (λ b. b < 256) bs

@@ -5,11 +5,11 @@ use Rattle.std.specs.List.{flat_map, AllByRecursion}
 use Rattle.bytecode.specs.Kinds.{among}
 use Rattle.bytecode.specs.Records.{Shown, bytes_of}
 use Rattle.codec.specs.Readable.{written}
-use Rattle.codec.specs.Walking.{At}
+use Rattle.codec.specs.Walking.{At, placed_from}
 use Rattle.instructions.specs.declared.instruction.Instruction.{Instruction}
 use Rattle.instructions.specs.Instructions.{instruction_of}
 use Rattle.modules.specs.Bounds.{TypesInside, StructInside, FunctionInside}
-use Rattle.modules.specs.Modules.{Section, is_kind, placed_from, up_to, sections, within, body_of, typed_at, type_in, line_at, line_in, struct_of, function_of}
+use Rattle.modules.specs.Modules.{Section, is_kind, up_to, sections, within, body_of, typed_at, type_in, line_at, line_in, struct_of, function_of}
 
 -- each record is at least a byte long, so all places are below the end
 pub places_inside : (xs : List Shown) (at n : ℕ) → at + length (written xs) ≤ n → AllByRecursion (λ r. r.0 < n) (placed_from at xs)

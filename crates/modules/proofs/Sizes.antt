@@ -4,13 +4,13 @@ use Rattle.std.proofs.ByRecursion.{All-append}
 use Rattle.std.specs.List.{flat_map, AllByRecursion}
 use Rattle.bytecode.specs.Records.{Shown, bytes_of}
 use Rattle.codec.specs.Readable.{written}
-use Rattle.codec.specs.Walking.{At}
+use Rattle.codec.specs.Walking.{At, placed_from}
 use Rattle.grammar.specs.declared.order.Part.{Part}
 use Rattle.grammar.specs.declared.order.Part.TheVariants.{Field, Param, Result as Answer, Local, Code}
 use Rattle.grammar.specs.Grammar.{Is, Each, none, more, Rows, no_more, and, StructRow, FunctionRow}
 use Rattle.grammar.specs.Order.{part_of, same}
 use Rattle.modules.specs.Bounds.{SizedStruct, SizedFunction}
-use Rattle.modules.specs.Modules.{is_kind, placed_from, up_to, sections, struct_of, function_of, line_in, field_in, param_in, result_in, local_in}
+use Rattle.modules.specs.Modules.{is_kind, up_to, sections, struct_of, function_of, line_in, field_in, param_in, result_in, local_in}
 use Rattle.modules.proofs.PartLaws.{other_part, is_kind_lem, names_one, names-none, no_line, one_line, param_local, code_names_none}
 
 joined-append : {X : Type 0} (say : At → List X) (rs qs : List At) → flat_map say (rs ++ qs) ≡ flat_map say rs ++ flat_map say qs

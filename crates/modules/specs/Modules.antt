@@ -1,11 +1,9 @@
 -- The module that bytes say.
-use Rattle.std.specs.Prelude.{ℕ, ◌+◌, Bool, cond, List, [], ◌∷◌, map, length, Some, None, Option, ◌==◌, nat_le, nat_lt, slice_index, slice_index_or}
+use Rattle.std.specs.Prelude.{ℕ, Bool, cond, List, [], ◌∷◌, map, length, Some, None, Option, ◌==◌, nat_le, nat_lt, slice_index, slice_index_or}
 use Rattle.std.specs.List.{flat_map}
 use Rattle.operands.specs.Operands.{low_first, type_ref}
 use Rattle.bytecode.specs.Kinds.{among}
-use Rattle.bytecode.specs.Records.{Shown, bytes_of}
-use Rattle.codec.specs.Reading.{cut}
-use Rattle.codec.specs.Walking.{At}
+use Rattle.codec.specs.Walking.{At, records_in}
 use Rattle.instructions.specs.declared.instruction.Instruction.{Instruction}
 use Rattle.instructions.specs.Instructions.{instruction_of}
 use Rattle.types.specs.declared.abilities.Abilities.{Abilities}
@@ -38,14 +36,6 @@ pub record Module : Type 0 where
 
 abbrev pub no_module : Module
 no_module = record { number = 0; structs = []; functions = [] }
-
--- records one behind the other, each with its place
-unfoldable pub placed_from : ℕ → List Shown → List At
-placed_from at [] = []
-placed_from at (x ∷ xs) = (at, x) ∷ placed_from (at + length (bytes_of x)) xs
-
-abbrev pub records_in : List ℕ → List At
-records_in bs = placed_from 0 (cut bs).records
 
 abbrev pub is_kind : ℕ → At → Bool
 is_kind k r = r.1.0 == k

@@ -1,5 +1,6 @@
 // The parts of a module, each with its place: the offset of its record in the module's bytes.
 ghost use Rattle.std.specs.Prelude.{◌≡◌};
+ghost use Rattle.modules.specs.Modules.{typed_at};
 ghost use Rattle.modules.specs.Visibilities.{visibility_of};
 
 use instructions::Instruction;
@@ -7,18 +8,18 @@ use operands::TypeRef;
 use types::Abilities;
 
 // Who may call a function: its own module, every module, or a transaction too.
-#[derive(Clone, Copy, PartialEq, Eq)]
+#[derive(Clone, Copy, Debug, PartialEq, Eq)]
 pub enum Visibility {
     Private,
     Public,
     Entry,
 }
 
-impl Visibility {
-    // The byte is 1 for public and 2 for entry.
-    pub fn of(byte: u8) -> Visibility
-        ensures { result ≡ visibility_of byte }
-    {
+// The byte is 1 for public and 2 for entry, and any other is private.
+impl From<u8> for Visibility {
+    ghost from_gives = { λ byte visibility. visibility ≡ visibility_of byte };
+
+    fn from(byte: u8) -> Visibility {
         match byte {
             1 => Visibility::Public,
             2 => Visibility::Entry,
@@ -28,28 +29,38 @@ impl Visibility {
 }
 
 // The type of a field, a parameter, a result or a local.
-#[derive(Clone, Copy)]
+#[derive(Clone, Copy, Debug, PartialEq, Eq)]
 pub struct Typed {
     pub ty: TypeRef,
     pub place: usize,
 }
 
+impl Typed {
+    // The type in the body of a record.
+    pub(crate) fn new(body: &[u8; 3], place: usize) -> Typed
+        ensures { result ≡ typed_at place body.now }
+    {
+        let ty = TypeRef::from(body);
+        Typed { ty, place }
+    }
+}
+
 // A line of code.
-#[derive(Clone, Copy)]
+#[derive(Clone, Copy, Debug, PartialEq, Eq)]
 pub struct Line {
     pub instruction: Instruction,
     pub place: usize,
 }
 
 // A struct, but for its fields.
-#[derive(Clone, Copy)]
+#[derive(Clone, Copy, Debug, PartialEq, Eq)]
 pub struct StructHead {
     pub abilities: Abilities,
     pub place: usize,
 }
 
 // A function, but for its types and its code.
-#[derive(Clone, Copy)]
+#[derive(Clone, Copy, Debug, PartialEq, Eq)]
 pub struct FunctionHead {
     pub visibility: Visibility,
     pub place: usize,

@@ -1,14 +1,14 @@
 // The rows into which a module is decoded.
-ghost use Rattle.std.specs.Prelude.{◌≤◌, vec_capacity};
-
 use super::parts::{FunctionHead, Line, StructHead, Typed};
 use groups::Grouped;
+use std::marker::Model;
 
 mod filling;
 mod reading;
 
 // A list of fields for each struct, and for each function lists of parameters, results, locals and code. The parameters are among the locals.
-// No record is shorter than a byte, so memory for 4,096 of each is enough for every module.
+// Clauses see the module that they mean. It is kept in columns, and not as a `Vec` of structs with a `Vec` in each, since memory is reserved once,
+// when rows are made, and decoding can't fail for want of it. No record is shorter than a byte, so memory for 4,096 of each is enough for every module.
 #[derive(Drop)]
 pub struct Rows {
     number: u16,
@@ -19,5 +19,16 @@ pub struct Rows {
     results: Grouped<Typed>,
     locals: Grouped<Typed>,
     code: Grouped<Line>,
-    ghost room: { (4096 ≤ vec_capacity structs) × (4096 ≤ vec_capacity functions) },
+}
+
+impl Model for Rows {
+    ghost use Rattle.modules.specs.Modules.{Module};
+
+    ghost Value = { Module };
+
+    ghost use Rattle.modules.specs.Rows.{module_of, Aligned};
+
+    ghost view = { module_of };
+
+    ghost invariant = { Aligned };
 }

@@ -1,25 +1,25 @@
 // How rows are made and filled.
-ghost use Rattle.std.specs.Prelude.{◌≡◌, ℕ, ◌+◌, length, IfOk, Ok};
-ghost use Rattle.bytecode.specs.Records.{shown};
+ghost use Rattle.std.specs.Prelude.{◌≡◌, ℕ, length, IfOk, Ok};
 ghost use Rattle.codec.specs.Reading.{read_module};
+ghost use Rattle.codec.specs.Walking.{shown_at};
+ghost use Rattle.modules.specs.Adding.{added, Room};
 ghost use Rattle.modules.specs.Bounds.{Bounded};
-ghost use Rattle.modules.specs.Modules.{decoded, no_module, typed_at};
-ghost use Rattle.modules.specs.Rows.{module_of, Empty, Added, Few};
+ghost use Rattle.modules.specs.Modules.{decoded, no_module};
 
 use super::Rows;
 use crate::parts::{FunctionHead, Line, StructHead, Typed, Visibility};
 use bytecode::Record;
-use codec::{MAX_MODULE, Walk};
+use codec::{MAX_MODULE, Placed, Walk};
 use groups::Grouped;
 use instructions::Instruction;
-use operands::{TypeRef, module_number};
+use operands::module_number;
 use std::alloc::{AllocError, Global};
 use types::Abilities;
 
 impl Rows {
     // Rows without a module, with memory for every module.
     pub fn new(heap: Global) -> Result<Rows, AllocError>
-        ensures { IfOk result (λ rows. module_of rows ≡ no_module) }
+        ensures { IfOk result (λ rows. rows ≡ no_module) }
     {
         let structs = Vec::with_capacity(heap, MAX_MODULE)?;
         let fields = Grouped::new(heap)?;
@@ -41,7 +41,7 @@ impl Rows {
     }
 
     fn clear(&mut self)
-        ensures { Empty self.new }
+        ensures { self.new ≡ no_module }
     {
         self.number = 0;
         self.structs.clear();
@@ -54,40 +54,36 @@ impl Rows {
     }
 
     // One record more.
-    fn add(&mut self, record: &Record, place: usize)
-        requires { Few 4095 self.old }
-        ensures after { Added (place, shown «record».now) self.old self.new }
-        ensures few { (n : ℕ) → Few n self.old → Few (n + 1) self.new }
+    fn add(&mut self, placed: &Placed)
+        requires { Room 1 self.old }
+        ensures { self.new ≡ added self.old (shown_at placed.now) }
     {
+        let Placed { place, record } = *placed;
         match record {
             Record::End => {}
             Record::Module(body) => self.number = module_number(body),
-            Record::Struct([abilities]) => {
-                self.structs.push_reserved(StructHead {
-                    abilities: Abilities::of(*abilities),
-                    place,
-                });
+            Record::Struct([byte]) => {
+                let abilities = Abilities::from(*byte);
+                self.structs.push_reserved(StructHead { abilities, place });
                 self.fields.open();
             }
-            Record::Field(body) => self.fields.add(typed(body, place)),
-            Record::Function([visibility]) => {
-                self.functions.push_reserved(FunctionHead {
-                    visibility: Visibility::of(*visibility),
-                    place,
-                });
+            Record::Field(body) => self.fields.add(Typed::new(body, place)),
+            Record::Function([byte]) => {
+                let visibility = Visibility::from(*byte);
+                self.functions.push_reserved(FunctionHead { visibility, place });
                 self.params.open();
                 self.results.open();
                 self.locals.open();
                 self.code.open();
             }
             Record::Param(body) => {
-                self.params.add(typed(body, place));
-                self.locals.add(typed(body, place));
+                self.params.add(Typed::new(body, place));
+                self.locals.add(Typed::new(body, place));
             }
-            Record::Result(body) => self.results.add(typed(body, place)),
-            Record::Local(body) => self.locals.add(typed(body, place)),
+            Record::Result(body) => self.results.add(Typed::new(body, place)),
+            Record::Local(body) => self.locals.add(Typed::new(body, place)),
             _ => {
-                if let Some(instruction) = Instruction::of(record) {
+                if let Some(instruction) = Instruction::of(&record) {
                     self.code.add(Line { instruction, place });
                 }
             }
@@ -96,26 +92,15 @@ impl Rows {
 
     // The rows of the module in these bytes. Of bytes that are too many for a module nothing is decoded.
     pub fn decode(&mut self, bytes: &[u8])
-        ensures means { module_of self.new ≡ decoded bytes.now }
-        ensures bounded { (n : ℕ) → read_module bytes.now ≡ Ok n → Bounded (length bytes.now) (module_of self.new) }
+        ensures means { self.new ≡ decoded bytes.now }
+        ensures bounded { (n : ℕ) → read_module bytes.now ≡ Ok n → Bounded (length bytes.now) self.new }
     {
         self.clear();
         if bytes.len() > MAX_MODULE {
             return;
         }
-        let mut walk = Walk::over(bytes);
-        while let Ok(placed) = walk.next_record() {
-            self.add(&placed.record, placed.place);
+        for placed in Walk::over(bytes) {
+            self.add(&placed);
         }
-    }
-}
-
-// The type in the body of a record.
-fn typed(body: &[u8; 3], place: usize) -> Typed
-    ensures { result ≡ typed_at place body.now }
-{
-    Typed {
-        ty: TypeRef::of(body),
-        place,
     }
 }

@@ -1,10 +1,7 @@
-use Rattle.std.proofs.Common.{vec_items, arith}
-use Rattle.groups.specs.Groups.{groups}
-use Rattle.modules.proofs.Columns.{functions_length}
+use Rattle.std.proofs.Common.{length, ap, ◌∙◌}
+use Rattle.std.proofs.lemmas.List.{length-map}
+use Rattle.modules.proofs.Columns.{columns_at}
 use Rattle.modules.proofs.rows.Rows.function_count.Goals as goal
 
 pub returns : goal.returns
-returns c =
-    let all = functions_length (vec_items c.args.self.now.functions) (groups c.args.self.now.params) (groups c.args.self.now.results) (groups c.args.self.now.locals) (groups c.args.self.now.code) in
-    let o = c.args.self.now.functions.ok.0 in
-    omega arith
+returns c = c.len.ensures ∙ c.self.inside.functions.ok.0 ∙ ap length (columns_at c.self.invariant c.self.view_is).functions ∙ length-map _ _

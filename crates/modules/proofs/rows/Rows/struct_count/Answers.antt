@@ -1,10 +1,7 @@
-use Rattle.std.proofs.Common.{vec_items, arith}
-use Rattle.groups.specs.Groups.{groups}
-use Rattle.modules.proofs.Columns.{structs_length}
+use Rattle.std.proofs.Common.{length, ap, ◌∙◌}
+use Rattle.std.proofs.lemmas.List.{length-map}
+use Rattle.modules.proofs.Columns.{columns_at}
 use Rattle.modules.proofs.rows.Rows.struct_count.Goals as goal
 
 pub returns : goal.returns
-returns c =
-    let all = structs_length (vec_items c.args.self.now.structs) (groups c.args.self.now.fields) in
-    let o = c.args.self.now.structs.ok.0 in
-    omega arith
+returns c = c.len.ensures ∙ c.self.inside.structs.ok.0 ∙ ap length (columns_at c.self.invariant c.self.view_is).structs ∙ length-map _ _

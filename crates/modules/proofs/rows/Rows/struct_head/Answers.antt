@@ -1,9 +1,9 @@
-use Rattle.std.proofs.Common.{arith}
-use Rattle.modules.proofs.Columns.{struct_head_lem, no_struct_head}
+use Rattle.std.proofs.Common.{◌∙◌, arith}
+use Rattle.std.proofs.lemmas.Grind.{common_steps}
+use Rattle.std.proofs.lemmas.Option.{gets}
+use Rattle.modules.specs.Modules.{struct_head, no_struct}
+use Rattle.modules.proofs.Columns.{columns_at, read_head}
 use Rattle.modules.proofs.rows.Rows.struct_head.Goals as goal
 
-pub returns-then-index-len : goal.returns-then-index-len
-returns-then-index-len c = no_struct_head c.args.self.now c.args.index (omega arith)
-
 pub returns : goal.returns
-returns c = struct_head_lem c.args.self.now c.args.index c.index.result.now (omega arith) c.index.ensures
+returns c = c.copied.ensures ∙ grind (arith, common_steps, gets) ∙ read_head struct_head c.args.self.now.structs c.args.index no_struct (columns_at c.self.invariant c.self.view_is).structs

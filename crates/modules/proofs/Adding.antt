@@ -1,11 +1,12 @@
--- What one record more does to the sections of a row.
-use Rattle.std.proofs.Common.{◌≡◌, ℕ, Bool, true, false, cond, List, [], ◌∷◌, ◌++◌, map, sym, refl, ap, ◌∙◌, append-nil, arith}
-use Rattle.std.proofs.lemmas.List.{map_push, flat_map_more}
+-- A module is what its records add, one by one.
+use Rattle.std.proofs.Common.{◌≡◌, ℕ, ◌+◌, ◌≤◌, Bool, true, false, cond, List, [], ◌∷◌, ◌++◌, map, length, sym, refl, ap, ◌∙◌, append_assoc, append-nil, arith}
+use Rattle.std.specs.List.{fold}
+use Rattle.std.proofs.lemmas.List.{map_push, flat_map_more, length_push}
 use Rattle.operands.specs.Operands.{low_first}
 use Rattle.codec.specs.Walking.{At}
-use Rattle.groups.specs.Groups.{last_of, lastly}
-use Rattle.modules.specs.Modules.{Section, is_kind, up_to, sections, within, body_of, number_from}
-use Rattle.modules.specs.Rows.{heads_with, extended, groups_with}
+use Rattle.groups.specs.Groups.{size, last_of, lastly}
+use Rattle.modules.specs.Modules.{Section, Module, StructDefinition, FunctionDefinition, is_kind, up_to, sections, within, body_of, struct_of, function_of, field_in, param_in, result_in, local_in, line_in, number_from, said, no_module}
+use Rattle.modules.specs.Adding.{longer_struct, longer_function, with_record, added, Room}
 
 never : {A : Type 0} {x : A} {xs : List A} → x ∷ xs ≡ [] → ⊥
 never e = let z : ◌≡◌ {A = ℕ} 0 1 = cc in omega arith
@@ -62,47 +63,49 @@ map-last_of : {X Y : Type 0} (f : X → Y) (h : X → X) (g : Y → Y) → ((x :
 map-last_of f h g e x [] = let i = e x in rw i
 map-last_of f h g e x (y ∷ ys) = ap (λ l. f x ∷ l) (map-last_of f h g e y ys)
 
-map-lastly : {X Y : Type 0} (f : X → Y) (h : X → X) (g : Y → Y) → ((x : X) → f (h x) ≡ g (f x)) → (xs : List X) → map f (lastly h xs) ≡ lastly g (map f xs)
+pub map-lastly : {X Y : Type 0} (f : X → Y) (h : X → X) (g : Y → Y) → ((x : X) → f (h x) ≡ g (f x)) → (xs : List X) → map f (lastly h xs) ≡ lastly g (map f xs)
 map-lastly f h g e [] = refl
 map-lastly f h g e (x ∷ xs) = map-last_of f h g e x xs
 
-last_of-same : {X : Type 0} (f : X → X) → ((x : X) → f x ≡ x) → (x : X) (xs : List X) → last_of f x xs ≡ x ∷ xs
-last_of-same f e x [] = ap (λ y. y ∷ []) (e x)
-last_of-same f e x (y ∷ ys) = ap (λ l. x ∷ l) (last_of-same f e y ys)
+-- what is said of the sections, with one record more
+module _ {X : Type 0} (k : ℕ) (of : Section → X) (more : At → X → X) (r : At) (rs : List At) (e : (s : Section) → of (longer r s) ≡ more r (of s)) where
+  parts_by : (b : Bool) → is_kind k r ≡ b → map of (sections k (rs ++ r ∷ [])) ≡ cond b (map of (sections k rs) ++ of (r, []) ∷ []) (lastly (more r) (map of (sections k rs)))
+  parts_by true h = ap (map of) (sections_more k r h rs) ∙ map_push of (sections k rs) (r, [])
+  parts_by false h = ap (map of) (sections-longer k r h rs) ∙ map-lastly of (longer r) (more r) e (sections k rs)
 
-lastly-same : {X : Type 0} (f : X → X) → ((x : X) → f x ≡ x) → (xs : List X) → lastly f xs ≡ xs
-lastly-same f e [] = refl
-lastly-same f e (x ∷ xs) = last_of-same f e x xs
+  parts_more : map of (sections k (rs ++ r ∷ [])) ≡ with_record k of more (map of (sections k rs)) r
+  parts_more = parts_by (is_kind k r) refl
 
-extended_is : {X : Type 0} (xs : List X) (gs : List (List X)) → lastly (λ l. l ++ xs) gs ≡ extended xs gs
-extended_is [] gs = lastly-same (λ l. l ++ []) append-nil gs
-extended_is (x ∷ xs) gs = refl
-
-module _ {X : Type 0} (k : ℕ) (r : At) (rs : List At) where
-  heads_by : (b : Bool) (head : At → X) → is_kind k r ≡ b
-      → map (λ s. head s.0) (sections k (rs ++ r ∷ [])) ≡ cond b (map (λ s. head s.0) (sections k rs) ++ head r ∷ []) (map (λ s. head s.0) (sections k rs))
-  heads_by true head h = ap (map (λ s. head s.0)) (sections_more k r h rs) ∙ map_push (λ s. head s.0) (sections k rs) (r, [])
-  heads_by false head h =
-      ap (map (λ s. head s.0)) (sections-longer k r h rs) ∙ map-lastly (λ s. head s.0) (longer r) (λ x. x) (λ s. refl) (sections k rs)
-      ∙ lastly-same (λ x. x) (λ x. refl) (map (λ s. head s.0) (sections k rs))
-
-  -- the first records of the sections
-  pub heads_more : (head : At → X) → map (λ s. head s.0) (sections k (rs ++ r ∷ [])) ≡ heads_with k head r (map (λ s. head s.0) (sections k rs))
-  heads_more head = heads_by (is_kind k r) head refl
-
-  groups_by : (b : Bool) (say : At → List X) → is_kind k r ≡ b
-      → map (within say) (sections k (rs ++ r ∷ [])) ≡ cond b (map (within say) (sections k rs) ++ [] ∷ []) (extended (say r) (map (within say) (sections k rs)))
-  groups_by true say h = ap (map (within say)) (sections_more k r h rs) ∙ map_push (within say) (sections k rs) (r, [])
-  groups_by false say h =
-      ap (map (within say)) (sections-longer k r h rs)
-      ∙ map-lastly (within say) (longer r) (λ l. l ++ say r) (λ s. sym (flat_map_more say [] s.1 r)) (sections k rs)
-      ∙ extended_is (say r) (map (within say) (sections k rs))
-
-  -- what the records of the sections say
-  pub groups_more : (say : At → List X) → map (within say) (sections k (rs ++ r ∷ [])) ≡ groups_with k say r (map (within say) (sections k rs))
-  groups_more say = groups_by (is_kind k r) say refl
-
-pub number_more : (rs : List At) (n : ℕ) (r : At) → number_from n (rs ++ r ∷ []) ≡ cond (is_kind 0x01 r) (low_first 2 (body_of r)) (number_from n rs)
+number_more : (rs : List At) (n : ℕ) (r : At) → number_from n (rs ++ r ∷ []) ≡ cond (is_kind 0x01 r) (low_first 2 (body_of r)) (number_from n rs)
 unfolding number_from
 number_more [] n r = refl
 number_more (q ∷ qs) n r = number_more qs (cond (is_kind 0x01 q) (low_first 2 (body_of q)) n) r
+
+within_more : {X : Type 0} (say : At → List X) (r : At) (s : Section) → within say (longer r s) ≡ within say s ++ say r
+within_more say r s = sym (flat_map_more say [] s.1 r)
+
+struct_more : (r : At) (s : Section) → struct_of (longer r s) ≡ longer_struct r (struct_of s)
+struct_more r s = let f = within_more field_in r s in rw f
+
+function_more : (r : At) (s : Section) → function_of (longer r s) ≡ longer_function r (function_of s)
+function_more r s =
+    let p = within_more param_in r s in
+    let a = within_more result_in r s in
+    let l = within_more local_in r s in
+    let c = within_more line_in r s in
+    rw (p, a, l, c)
+
+said_more : (rs : List At) (r : At) → said (rs ++ r ∷ []) ≡ added (said rs) r
+said_more rs r =
+    let n = number_more rs 0 r in
+    let s = parts_more 0x02 struct_of longer_struct r rs (struct_more r) in
+    let f = parts_more 0x04 function_of longer_function r rs (function_more r) in
+    rw (n, s, f)
+
+said_then : (ps rs : List At) → fold added (said ps) rs ≡ said (ps ++ rs)
+said_then ps [] = ap said (sym (append-nil ps))
+said_then ps (r ∷ rs) = ap (λ m. fold added m rs) (sym (said_more ps r)) ∙ said_then (ps ++ r ∷ []) rs ∙ ap said (append_assoc ps (r ∷ []) rs)
+
+pub said_is : (rs : List At) → fold added no_module rs ≡ said rs
+unfolding sections number_from
+said_is rs = said_then [] rs
