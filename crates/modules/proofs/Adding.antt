@@ -1,12 +1,12 @@
 -- A module is what its records add, one by one.
-use Rattle.std.proofs.Common.{◌≡◌, ℕ, ◌+◌, ◌≤◌, Bool, true, false, cond, List, [], ◌∷◌, ◌++◌, map, length, sym, refl, ap, ◌∙◌, append_assoc, append-nil, arith}
+use Rattle.std.proofs.Common.{◌≡◌, ℕ, Bool, true, false, cond, List, [], ◌∷◌, ◌++◌, map, sym, refl, ap, ◌∙◌, append_assoc, append-nil, arith}
 use Rattle.std.specs.List.{fold}
-use Rattle.std.proofs.lemmas.List.{map_push, flat_map_more, length_push}
+use Rattle.std.proofs.lemmas.List.{map_push, flat_map_more}
 use Rattle.operands.specs.Operands.{low_first}
 use Rattle.codec.specs.Walking.{At}
-use Rattle.groups.specs.Groups.{size, last_of, lastly}
-use Rattle.modules.specs.Modules.{Section, Module, StructDefinition, FunctionDefinition, is_kind, up_to, sections, within, body_of, struct_of, function_of, field_in, param_in, result_in, local_in, line_in, number_from, said, no_module}
-use Rattle.modules.specs.Adding.{longer_struct, longer_function, with_record, added, Room}
+use Rattle.groups.specs.Groups.{last_of, lastly}
+use Rattle.modules.specs.Modules.{Section, is_kind, up_to, sections, within, body_of, struct_of, function_of, field_in, param_in, result_in, local_in, line_in, number_from, said, no_module}
+use Rattle.modules.specs.Adding.{longer_struct, longer_function, with_record, added}
 
 never : {A : Type 0} {x : A} {xs : List A} → x ∷ xs ≡ [] → ⊥
 never e = let z : ◌≡◌ {A = ℕ} 0 1 = cc in omega arith

@@ -1,5 +1,5 @@
 -- Columns and the module that they mean: each is the other's, and stays so with one record more.
-use Rattle.std.proofs.Common.{◌≡◌, ℕ, zero, suc, ◌+◌, ◌<◌, ◌≤◌, Bool, true, false, cond, ltb, List, [], ◌∷◌, ◌++◌, map, length, get_or, Some, None, vec_items, vec_len, vec_capacity, sym, refl, ap, ◌∙◌, subst, append-nil, arith}
+use Rattle.std.proofs.Common.{◌≡◌, ℕ, zero, suc, ◌+◌, ◌≤◌, Bool, true, false, cond, ltb, List, [], ◌∷◌, ◌++◌, map, length, get_or, Some, None, vec_items, vec_len, vec_capacity, sym, refl, ap, ◌∙◌, subst, append-nil, arith}
 use Rattle.std.specs.List.{slice_get}
 use Rattle.std.proofs.lemmas.Bool.{le-ltb, lt-ltb}
 use Rattle.std.proofs.lemmas.Bool.Decides.{nat_tests}
@@ -15,7 +15,7 @@ use Rattle.modules.specs.declared.parts.Typed.{Typed}
 use Rattle.modules.specs.declared.rows.Rows.TheInside.{Inside}
 use Rattle.modules.specs.Modules.{Module, StructDefinition, FunctionDefinition, Section, is_kind, body_of, struct_of, function_of, field_in, param_in, result_in, local_in, line_in, struct_head, function_head}
 use Rattle.modules.specs.Rows.{first, others, structs_of, functions_of, module_of, Aligned}
-use Rattle.modules.specs.Adding.{longer_struct, longer_function, with_record, added, Room}
+use Rattle.modules.specs.Adding.{longer_struct, longer_function, added, Room}
 use Rattle.instructions.specs.declared.instruction.Instruction.{Instruction}
 use Rattle.instructions.specs.Instructions.{instruction_of}
 use Rattle.modules.proofs.Adding.{map-lastly}

@@ -1,7 +1,7 @@
 -- What one turn of decoding a module keeps.
-use Rattle.std.proofs.Common.{◌≡◌, ℕ, zero, suc, ◌+◌, ◌≤◌, Bool, true, false, cond, List, [], ◌∷◌, ◌++◌, map, length, Ok, Err, Some, None, Option, Result, sym, refl, ap, ◌∙◌, subst, arith, length-append, append-nil}
+use Rattle.std.proofs.Common.{◌≡◌, ℕ, zero, suc, ◌+◌, ◌≤◌, Bool, true, false, cond, List, [], ◌∷◌, ◌++◌, map, length, Ok, Err, Some, None, Option, Result, sym, refl, ap, ◌∙◌, subst, arith, length-append}
 use Rattle.std.specs.List.{fold}
-use Rattle.std.proofs.lemmas.List.{length-map, length_push}
+use Rattle.std.proofs.lemmas.List.{length_push}
 use Rattle.bytecode.specs.declared.refusals.Reason.{Reason}
 use Rattle.bytecode.specs.Kinds.{among}
 use Rattle.bytecode.specs.Records.{Shown, bytes_of}
@@ -12,7 +12,7 @@ use Rattle.groups.specs.Groups.{size, last_of, lastly}
 use Rattle.instructions.specs.declared.instruction.Instruction.{Instruction}
 use Rattle.instructions.specs.Instructions.{instruction_of}
 use Rattle.modules.specs.Bounds.{Bounded}
-use Rattle.modules.specs.Modules.{Module, StructDefinition, FunctionDefinition, Section, is_kind, body_of, typed_at, type_in, line_at, struct_of, function_of, field_in, param_in, result_in, local_in, line_in, module_in, no_module}
+use Rattle.modules.specs.Modules.{Module, Section, is_kind, body_of, typed_at, type_in, line_at, struct_of, function_of, field_in, param_in, result_in, local_in, line_in, module_in, no_module}
 use Rattle.modules.specs.Adding.{longer_struct, longer_function, with_record, added, Room}
 use Rattle.modules.proofs.Adding.{said_is}
 use Rattle.modules.proofs.Columns.{grown, lists_by}

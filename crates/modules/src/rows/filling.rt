@@ -70,7 +70,8 @@ impl Rows {
             Record::Field(body) => self.fields.add(Typed::new(body, place)),
             Record::Function([byte]) => {
                 let visibility = Visibility::from(*byte);
-                self.functions.push_reserved(FunctionHead { visibility, place });
+                self.functions
+                    .push_reserved(FunctionHead { visibility, place });
                 self.params.open();
                 self.results.open();
                 self.locals.open();
