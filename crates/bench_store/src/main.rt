@@ -1,7 +1,7 @@
 // Times finding, putting and removing in a table store; without an argument it does nothing.
 #![tactic(auto)]
 
-use anyhow::anyhow;
+use anyhow::{Context, ensure};
 use std::env;
 use std::time::Instant;
 use store::{Key, Pair, Store, TableStore};
@@ -27,14 +27,13 @@ fn mixed(turn: u64, mask: u64) -> Key {
 
 // A full store of so many rows, with the addresses from 0.
 fn full(rt: &HostRuntime, rows: usize) -> anyhow::Result<TableStore> {
-    let Some(row) = Pair::new(key(0), &[0]) else {
-        return Err(anyhow!("one word is no pair"));
-    };
+    let row = Pair::new(key(0), &[0]).context("one word is no pair")?;
     let mut store = TableStore::over(vec![in rt.alloc(); row; rows]?);
     for address in 0..rows as u64 {
-        if store.put(key(address), &[address]).is_err() {
-            return Err(anyhow!("a put was refused"));
-        }
+        ensure!(
+            store.put(key(address), &[address]).is_ok(),
+            "a put was refused"
+        );
     }
     Ok(store)
 }
@@ -68,9 +67,10 @@ fn measure(rt: &HostRuntime, rows: usize, mask: u64) -> anyhow::Result<()> {
         good = good && store.put(mixed(turn, mask), &[turn]).is_ok();
     }
     let edit = each(rt, start, EDITS)?;
-    if !good || store.size() != rows as u64 {
-        return Err(anyhow!("a store answered otherwise than it should"));
-    }
+    ensure!(
+        good && store.size() == rows as u64,
+        "a store answered otherwise than it should"
+    );
     println!(rt;
         "{rows:>5} pairs: {find:>4} ns to find, {replace:>4} ns to put a present key, {edit:>6} ns to remove a key and put it back"
     )?;
