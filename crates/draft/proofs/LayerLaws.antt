@@ -1,5 +1,5 @@
 -- A draft's changes, and the layer that they make.
-use Rattle.std.proofs.Common.{◌≡◌, ℕ, ◌+◌, ◌-◌, ◌<◌, ◌≤◌, min, Bool, true, false, cond, ◌||◌, ltb, List, [], ◌∷◌, ◌++◌, map, length, set, replicate, is_some, Some, None, Ok, Err, Option, Result, is_ok, sym, refl, ap, ◌∙◌, subst, ⊎_elim, arith}
+use Rattle.std.proofs.Common.{◌≡◌, ℕ, ◌+◌, ◌-◌, ◌<◌, ◌≤◌, min, Bool, true, false, cond, ◌||◌, ltb, List, [], ◌∷◌, map, length, set, is_some, Some, None, Ok, Err, Option, Result, is_ok, sym, refl, ap, ◌∙◌, subst, ⊎_elim, arith}
 use Rattle.std.specs.Option.{option_map}
 use Rattle.std.specs.List.{insert, count_by}
 use Rattle.std.proofs.lemmas.List.{length-map}
@@ -8,6 +8,7 @@ use Rattle.std.proofs.lemmas.Bool.Decides.{nat_tests}
 use Rattle.std.proofs.lemmas.Bool.{lt-ltb, le-ltb, ltb-true, cases_Bool, both_ways, and_parts}
 use Rattle.table.specs.Rows as rows
 use Rattle.table.specs.Searching.{found_sorted}
+use Rattle.table.proofs.Found.{found_there, found_none}
 use Rattle.table.proofs.Maps.{map-look, map-put}
 use Rattle.table.proofs.Placing.{length_without, put-over, put_new}
 use Rattle.table.proofs.Sorting.{sorted-put}
@@ -29,15 +30,6 @@ use Rattle.draft.specs.Layer.{entries, layer}
 use Rattle.draft.specs.Overlay.{apply, overlay, left, shadow, adds, takes}
 use Rattle.draft.specs.Overlays.{entry-overlay, overlay-put, length-overlay, length-apply, count_overlay}
 use Rattle.draft.specs.Soundness.{ordered-entries}
-
--- where the search ends: at the record, or where it would be put
-ok_chosen : (b : Bool) (at n : ℕ) → ◌≡◌ {A = Result ℕ ℕ} (Ok at) (cond b (Ok n) (Err n)) → (b ≡ true) × (at ≡ n)
-ok_chosen true at n e = (refl, cc)
-ok_chosen false at n e = absurd (let z : ◌≡◌ {A = ℕ} 0 1 = cc in omega arith)
-
-err_chosen : (b : Bool) (at n : ℕ) → ◌≡◌ {A = Result ℕ ℕ} (Err at) (cond b (Ok n) (Err n)) → (b ≡ false) × (at ≡ n)
-err_chosen true at n e = absurd (let z : ◌≡◌ {A = ℕ} 0 1 = cc in omega arith)
-err_chosen false at n e = (refl, cc)
 
 pub entry_changes : (c : Changes) (k : Key) → entry k (entries c) ≡ option_map changed (rows.look change_key key_before k c.rows.items)
 entry_changes c k = map-look changed key_of key_before k c.rows.items
@@ -108,13 +100,15 @@ module _ (c : Changes) (x : Change) (at : ℕ) where
   pub noted_over : Ok at ≡ found_sorted change_key key_before x.key old
       → (rising (set old at x) ≡ true) × (map changed (set old at x) ≡ rows.put key_of key_before (changed x) (entries c)) × (may_touch (Some (map key_of (entries c))) x.key ≡ true)
   noted_over e =
-      let t = ok_chosen _ _ _ e in
-      let p = put_noted (set old at x) (ap (λ n. set old n x) t.1 ∙ sym (put-over change_key key_before x old t.0)) in
-      let there : is_some (rows.look own key_before x.key (map key_of (entries c))) ≡ true = touched_entries c x.key ∙ t.0 in
+      let t : is_some (rows.look change_key key_before x.key old) ≡ true = ap is_some (found_there change_key key_before x.key old at x e) in
+      let f : Ok at ≡ Ok (rows.place change_key key_before x.key old) = rw t at e in
+      let same : at ≡ rows.place change_key key_before x.key old = cc in
+      let p = put_noted (set old at x) (ap (λ n. set old n x) same ∙ sym (put-over change_key key_before x old t)) in
+      let there : is_some (rows.look own key_before x.key (map key_of (entries c))) ≡ true = touched_entries c x.key ∙ t in
       (p.0, p.1, rw there)
 
   absent : Err at ≡ found_sorted change_key key_before x.key old → is_some (rows.look own key_before x.key (map key_of (entries c))) ≡ false
-  absent e = touched_entries c x.key ∙ (err_chosen _ _ _ e).0
+  absent e = touched_entries c x.key ∙ ap is_some (found_none change_key key_before x.key old at e)
 
   keys : length (map key_of (entries c)) ≡ length old
   keys = length-map _ _ ∙ length-map _ _
@@ -123,8 +117,10 @@ module _ (c : Changes) (x : Change) (at : ℕ) where
   pub noted_new : Err at ≡ found_sorted change_key key_before x.key old → length old < 64
       → (rising (insert old at x) ≡ true) × (map changed (insert old at x) ≡ rows.put key_of key_before (changed x) (entries c)) × (may_touch (Some (map key_of (entries c))) x.key ≡ true)
   noted_new e room =
-      let t = err_chosen _ _ _ e in
-      let p = put_noted (insert old at x) (ap (λ n. insert old n x) t.1 ∙ sym (put_new change_key key_before x old t.0)) in
+      let t : is_some (rows.look change_key key_before x.key old) ≡ false = ap is_some (found_none change_key key_before x.key old at e) in
+      let f : Err at ≡ Err (rows.place change_key key_before x.key old) = rw t at e in
+      let same : at ≡ rows.place change_key key_before x.key old = cc in
+      let p = put_noted (insert old at x) (ap (λ n. insert old n x) same ∙ sym (put_new change_key key_before x old t)) in
       let gone = absent e in
       (p.0, p.1, rw gone (lt-ltb _ 64 (omega (arith, keys))))
 

@@ -1,5 +1,5 @@
 use Rattle.std.proofs.Common.{map, drop, sym, ap, ◌∙◌, ◌+◌}
-use Rattle.draft.specs.Changes.{changed, words_left}
+use Rattle.draft.specs.Changes.{changed}
 use Rattle.draft.specs.Merging.{each, put_one}
 use Rattle.draft.proofs.Merges.{each_next, given_step, skipped_step}
 use Rattle.draft.proofs.merging.put_all.Goals as goal

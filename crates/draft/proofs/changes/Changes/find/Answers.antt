@@ -1,4 +1,3 @@
-use Rattle.std.proofs.Common.{◌∙◌}
 use Rattle.store.specs.Orders.{key_less}
 use Rattle.draft.proofs.changes.Changes.find.Goals as goal
 

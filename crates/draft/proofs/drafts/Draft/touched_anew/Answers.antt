@@ -1,4 +1,4 @@
-use Rattle.std.proofs.Common.{◌∙◌, rules}
+use Rattle.std.proofs.Common.{rules}
 use Rattle.draft.proofs.Merges.{anew_counted}
 use Rattle.draft.proofs.drafts.Draft.touched_anew.Goals as goal
 

@@ -1,4 +1,4 @@
-use Rattle.std.proofs.Common.{length, sym, ap, ◌∙◌}
+use Rattle.std.proofs.Common.{length, ap, ◌∙◌}
 use Rattle.store.specs.Pairs.{words_of, shown}
 use Rattle.draft.proofs.LayerLaws.{read_words, read_emptied, unchanged_entry}
 use Rattle.draft.proofs.layers.DraftStore.read.Goals as goal
