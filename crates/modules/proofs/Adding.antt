@@ -1,5 +1,5 @@
 -- A module is what its records add, one by one.
-use Rattle.std.proofs.Common.{◌≡◌, ℕ, Bool, true, false, cond, List, [], ◌∷◌, ◌++◌, map, sym, refl, ap, ◌∙◌, append_assoc, append-nil, arith}
+use Rattle.std.proofs.Common.{◌≡◌, ℕ, Bool, true, false, cond, List, [], ◌∷◌, ◌++◌, map, sym, refl, ap, ◌∙◌, append_assoc, append-nil}
 use Rattle.std.specs.List.{fold}
 use Rattle.std.proofs.lemmas.List.{map_push, flat_map_more}
 use Rattle.operands.specs.Operands.{low_first}
@@ -7,9 +7,6 @@ use Rattle.codec.specs.Walking.{At}
 use Rattle.groups.specs.Groups.{last_of, lastly}
 use Rattle.modules.specs.Modules.{Section, is_kind, up_to, sections, within, body_of, struct_of, function_of, field_in, param_in, result_in, local_in, line_in, number_from, said, no_module}
 use Rattle.modules.specs.Adding.{longer_struct, longer_function, with_record, added}
-
-never : {A : Type 0} {x : A} {xs : List A} → x ∷ xs ≡ [] → ⊥
-never e = let z : ◌≡◌ {A = ℕ} 0 1 = cc in omega arith
 
 -- one record more in a section
 abbrev longer : At → Section → Section
@@ -36,11 +33,11 @@ module _ (k : ℕ) (r : At) where
     up_to_longer [] e = rw other
     up_to_longer (q ∷ qs) e =
         let P : Bool → Type 0 = λ b. cond b ((q, up_to k qs) ∷ sections k qs) (sections k qs) ≡ [] → cond b [] (q ∷ up_to k (qs ++ r ∷ [])) ≡ cond b [] (q ∷ up_to k qs) ++ r ∷ [] in
-        elim (is_kind k q) as P [ true ↦ λ s. absurd (never s) | false ↦ λ s. ap (λ l. q ∷ l) (up_to_longer qs s) ] e
+        elim (is_kind k q) as P [ true ↦ λ s. absurd cc | false ↦ λ s. ap (λ l. q ∷ l) (up_to_longer qs s) ] e
 
     up_to_kept : (rs : List At) (s : Section) (ss : List Section) → sections k rs ≡ s ∷ ss → up_to k (rs ++ r ∷ []) ≡ up_to k rs
     unfolding sections up_to
-    up_to_kept [] s ss e = absurd (never (sym e))
+    up_to_kept [] s ss e = absurd cc
     up_to_kept (q ∷ qs) s ss e =
         let P : Bool → Type 0 = λ b. cond b ((q, up_to k qs) ∷ sections k qs) (sections k qs) ≡ s ∷ ss → cond b [] (q ∷ up_to k (qs ++ r ∷ [])) ≡ cond b [] (q ∷ up_to k qs) in
         elim (is_kind k q) as P [ true ↦ λ _. refl | false ↦ λ e'. ap (λ l. q ∷ l) (up_to_kept qs s ss e') ] e

@@ -76,50 +76,49 @@ fields_of_structs (h ∷ hs) fs e =
     let s = split fs h hs e in
     ap (λ l. first fs ∷ l) (fields_of_structs hs (others fs) s.1) ∙ sym s.0
 
-heads_of_functions : (hs : List FunctionHead) (ps rs ls : List (List Typed)) (cs : List (List Line)) → map function_head (functions_of hs ps rs ls cs) ≡ hs
-unfolding functions_of
-heads_of_functions [] ps rs ls cs = refl
-heads_of_functions (h ∷ hs) ps rs ls cs = ap (λ l. h ∷ l) (heads_of_functions hs (others ps) (others rs) (others ls) (others cs))
+-- as many lists in each column as heads
+record Even (n : ℕ) (ps rs ls : List (List Typed)) (cs : List (List Line)) : Type 0 where
+  pub params : length ps ≡ n
+  pub results : length rs ≡ n
+  pub locals : length ls ≡ n
+  pub code : length cs ≡ n
 
-params_of_functions : (hs : List FunctionHead) (ps rs ls : List (List Typed)) (cs : List (List Line)) → length ps ≡ length hs → map (λ f. f.params) (functions_of hs ps rs ls cs) ≡ ps
-unfolding functions_of
-params_of_functions [] ps rs ls cs e = sym (nil_from_length ps e)
-params_of_functions (h ∷ hs) ps rs ls cs e =
-    let s = split ps h hs e in
-    ap (λ l. first ps ∷ l) (params_of_functions hs (others ps) (others rs) (others ls) (others cs) s.1) ∙ sym s.0
+-- these columns are those of the functions
+record Lists (fs : List FunctionDefinition) (hs : List FunctionHead) (ps rs ls : List (List Typed)) (cs : List (List Line)) : Type 0 where
+  pub heads : map function_head fs ≡ hs
+  pub params : map (λ f. f.params) fs ≡ ps
+  pub results : map (λ f. f.results) fs ≡ rs
+  pub locals : map (λ f. f.locals) fs ≡ ls
+  pub code : map (λ f. f.code) fs ≡ cs
 
-results_of_functions : (hs : List FunctionHead) (ps rs ls : List (List Typed)) (cs : List (List Line)) → length rs ≡ length hs → map (λ f. f.results) (functions_of hs ps rs ls cs) ≡ rs
+lists_of : (hs : List FunctionHead) (ps rs ls : List (List Typed)) (cs : List (List Line)) → Even (length hs) ps rs ls cs → Lists (functions_of hs ps rs ls cs) hs ps rs ls cs
 unfolding functions_of
-results_of_functions [] ps rs ls cs e = sym (nil_from_length rs e)
-results_of_functions (h ∷ hs) ps rs ls cs e =
-    let s = split rs h hs e in
-    ap (λ l. first rs ∷ l) (results_of_functions hs (others ps) (others rs) (others ls) (others cs) s.1) ∙ sym s.0
-
-locals_of_functions : (hs : List FunctionHead) (ps rs ls : List (List Typed)) (cs : List (List Line)) → length ls ≡ length hs → map (λ f. f.locals) (functions_of hs ps rs ls cs) ≡ ls
-unfolding functions_of
-locals_of_functions [] ps rs ls cs e = sym (nil_from_length ls e)
-locals_of_functions (h ∷ hs) ps rs ls cs e =
-    let s = split ls h hs e in
-    ap (λ l. first ls ∷ l) (locals_of_functions hs (others ps) (others rs) (others ls) (others cs) s.1) ∙ sym s.0
-
-code_of_functions : (hs : List FunctionHead) (ps rs ls : List (List Typed)) (cs : List (List Line)) → length cs ≡ length hs → map (λ f. f.code) (functions_of hs ps rs ls cs) ≡ cs
-unfolding functions_of
-code_of_functions [] ps rs ls cs e = sym (nil_from_length cs e)
-code_of_functions (h ∷ hs) ps rs ls cs e =
-    let s = split cs h hs e in
-    ap (λ l. first cs ∷ l) (code_of_functions hs (others ps) (others rs) (others ls) (others cs) s.1) ∙ sym s.0
+lists_of [] ps rs ls cs e = record { heads = refl; params = sym (nil_from_length ps e.params); results = sym (nil_from_length rs e.results); locals = sym (nil_from_length ls e.locals); code = sym (nil_from_length cs e.code) }
+lists_of (h ∷ hs) ps rs ls cs e =
+    let p = split ps h hs e.params in
+    let r = split rs h hs e.results in
+    let l = split ls h hs e.locals in
+    let c = split cs h hs e.code in
+    let ih = lists_of hs (others ps) (others rs) (others ls) (others cs) (record { params = p.1; results = r.1; locals = l.1; code = c.1 }) in
+    record {
+      heads = ap (λ x. h ∷ x) ih.heads;
+      params = ap (λ x. first ps ∷ x) ih.params ∙ sym p.0;
+      results = ap (λ x. first rs ∷ x) ih.results ∙ sym r.0;
+      locals = ap (λ x. first ls ∷ x) ih.locals ∙ sym l.0;
+      code = ap (λ x. first cs ∷ x) ih.code ∙ sym c.0;
+    }
 
 columns_of : (r : Inside) → Aligned r → InColumns r (module_of r)
 columns_of r a =
-    let hs = vec_items r.functions in record {
+    let l = lists_of (vec_items r.functions) r.params r.results r.locals r.code (record { params = a.params; results = a.results; locals = a.locals; code = a.code }) in record {
       number = refl;
       structs = sym (heads_of_structs (vec_items r.structs) r.fields);
       fields = sym (fields_of_structs (vec_items r.structs) r.fields a.fields);
-      functions = sym (heads_of_functions hs r.params r.results r.locals r.code);
-      params = sym (params_of_functions hs r.params r.results r.locals r.code a.params);
-      results = sym (results_of_functions hs r.params r.results r.locals r.code a.results);
-      locals = sym (locals_of_functions hs r.params r.results r.locals r.code a.locals);
-      code = sym (code_of_functions hs r.params r.results r.locals r.code a.code);
+      functions = sym l.heads;
+      params = sym l.params;
+      results = sym l.results;
+      locals = sym l.locals;
+      code = sym l.code;
     }
 
 as_many : {X Y Z : Type 0} (f : X → Y) (g : X → Z) (xs : List X) {ys : List Y} {zs : List Z} → ys ≡ map f xs → zs ≡ map g xs → length ys ≡ length zs

@@ -4,10 +4,9 @@ use Rattle.std.specs.List.{fold}
 use Rattle.std.proofs.lemmas.List.{length_push}
 use Rattle.bytecode.specs.declared.refusals.Reason.{Reason}
 use Rattle.bytecode.specs.Kinds.{among}
-use Rattle.bytecode.specs.Records.{Shown, bytes_of}
 use Rattle.codec.specs.FirstRecord.{Read, read_one}
 use Rattle.codec.specs.Reading.{cutting, on_read, read_module}
-use Rattle.codec.specs.Walking.{At, placed_from, records_in}
+use Rattle.codec.specs.Walking.{At, records_in}
 use Rattle.groups.specs.Groups.{size, last_of, lastly}
 use Rattle.instructions.specs.declared.instruction.Instruction.{Instruction}
 use Rattle.instructions.specs.Instructions.{instruction_of}
@@ -17,16 +16,12 @@ use Rattle.modules.specs.Adding.{longer_struct, longer_function, with_record, ad
 use Rattle.modules.proofs.Adding.{said_is}
 use Rattle.modules.proofs.Columns.{grown, lists_by}
 use Rattle.modules.proofs.ModuleBounds.{readable_bounded}
+use Rattle.modules.proofs.Sizes.{placed-length}
 
 -- the records that are still to come make of what is there the module in the bytes, and there is room for them
 pub record Decoding (bs : List ℕ) (m : Module) (rs : List At) : Type 0 where
   pub means : fold added m rs ≡ module_in bs
   pub room : Room (length rs) m
-
-placed-length : (xs : List Shown) (at : ℕ) → length (placed_from at xs) ≡ length xs
-unfolding placed_from
-placed-length [] at = refl
-placed-length (x ∷ xs) at = ap suc (placed-length xs (at + length (bytes_of x)))
 
 -- no more records than bytes
 few_read : (turns : ℕ) (r : Result Read Reason) → ((bs : List ℕ) → length (cutting turns bs).records ≤ turns) → length (on_read r (cutting turns)).records ≤ suc turns

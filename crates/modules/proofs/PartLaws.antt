@@ -1,5 +1,5 @@
 -- What the records of each part of a module say.
-use Rattle.std.proofs.Common.{◌≡◌, ℕ, Bool, true, false, eqb, List, [], ◌∷◌, length, is_some, Some, None, Ok, Option, sym, refl, ap, ◌∙◌, arith}
+use Rattle.std.proofs.Common.{◌≡◌, eq-eqb, ℕ, Bool, true, false, eqb, List, [], ◌∷◌, length, is_some, Some, None, Ok, Option, sym, refl, ap, ◌∙◌, arith}
 use Rattle.std.proofs.lemmas.Bool.{eqb-true}
 use Rattle.std.proofs.lemmas.Bool.Decides.{nat_tests}
 use Rattle.bytecode.specs.Kinds.{among, body_length}
@@ -8,28 +8,16 @@ use Rattle.codec.specs.Walking.{At}
 use Rattle.grammar.specs.declared.order.Part.{Part}
 use Rattle.grammar.specs.declared.order.Part.TheVariants.{Start, Module, Struct, Field, Function, Param, Result as Answer, Local, Code, End}
 use Rattle.grammar.specs.Grammar.{Is}
-use Rattle.grammar.specs.Order.{part_of, same}
+use Rattle.grammar.specs.Order.{part_of, rank, same}
 use Rattle.instructions.specs.declared.instruction.Instruction.{Instruction}
 use Rattle.instructions.specs.Instructions.{instruction_of}
 use Rattle.modules.specs.Modules.{type_in, line_at, line_in}
 
 by_test : (b : Bool) (k n : ℕ) (part : Part) → part_of k ≡ part → same (part_of n) part ≡ false → eqb k n ≡ b → b ≡ false
 by_test true k n part e other h =
-    let z : ◌≡◌ {A = Bool} true false = sym (same_itself part) ∙ ap (λ p. same p part) (sym e ∙ ap part_of (eqb-true k n h)) ∙ other in
-    let y : ◌≡◌ {A = ℕ} 0 1 = cc in
-    absurd (omega arith)
-  where
-    same_itself : (p : Part) → same p p ≡ true
-    same_itself Start = refl
-    same_itself Module = refl
-    same_itself Struct = refl
-    same_itself Field = refl
-    same_itself Function = refl
-    same_itself Param = refl
-    same_itself Answer = refl
-    same_itself Local = refl
-    same_itself Code = refl
-    same_itself End = refl
+    let same_kind : part_of n ≡ part = ap part_of (sym (eqb-true k n h)) ∙ e in
+    let itself = eq-eqb (rank part) (rank part) refl in
+    absurd cc
 by_test false k n part e other h = refl
 
 -- a record of a part is of no kind of another part
@@ -39,8 +27,7 @@ other_part {part} {x} n i other = by_test (eqb x.0 n) x.0 n part i.kind other re
 by_kind : (b : Bool) (x : Shown) (i : Instruction) (k : ℕ) → instruction_of x ≡ Some i → instruction_of (k, x.1) ≡ None → eqb x.0 k ≡ b → b ≡ false
 by_kind true x i k e none h =
     let same : x.0 ≡ k = eqb-true x.0 k h in
-    let z : ◌≡◌ {A = ℕ} 0 1 = cc in
-    absurd (omega arith)
+    absurd cc
 by_kind false x i k e none h = refl
 
 -- an instruction is of no kind that is none
@@ -88,7 +75,7 @@ no_line r i c e = ap (λ k. line_at r.0 (instruction_of (k, r.1.1))) (is_kind_le
 
 line_there : (at : ℕ) (i : Option Instruction) → is_some i ≡ true → length (line_at at i) ≡ 1
 line_there at (Some i) h = refl
-line_there at None h = let z : ◌≡◌ {A = ℕ} 0 1 = cc in absurd (omega arith)
+line_there at None h = absurd cc
 
 instruction_there : (x : Shown) → formed x ≡ Ok x → part_of x.0 ≡ Code → is_some (instruction_of x) ≡ true
 unfolding body_length

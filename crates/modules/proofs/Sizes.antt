@@ -1,6 +1,7 @@
 -- How many parts the structs and functions of a module have.
 use Rattle.std.proofs.Common.{◌≡◌, ℕ, suc, ◌+◌, ◌≤◌, true, false, eqb, List, [], ◌∷◌, ◌++◌, length, sym, refl, ap, ◌∙◌, subst, append_assoc, append-nil, arith, length-append}
 use Rattle.std.proofs.ByRecursion.{All-append}
+use Rattle.std.proofs.lemmas.List.Concat.{flat_map-append}
 use Rattle.std.specs.List.{flat_map, AllByRecursion}
 use Rattle.bytecode.specs.Records.{Shown, bytes_of}
 use Rattle.codec.specs.Readable.{written}
@@ -12,10 +13,6 @@ use Rattle.grammar.specs.Order.{part_of, same}
 use Rattle.modules.specs.Bounds.{SizedStruct, SizedFunction}
 use Rattle.modules.specs.Modules.{is_kind, up_to, sections, struct_of, function_of, line_in, field_in, param_in, result_in, local_in}
 use Rattle.modules.proofs.PartLaws.{other_part, is_kind_lem, names_one, names-none, no_line, one_line, param_local, code_names_none}
-
-joined-append : {X : Type 0} (say : At → List X) (rs qs : List At) → flat_map say (rs ++ qs) ≡ flat_map say rs ++ flat_map say qs
-joined-append say [] qs = refl
-joined-append say (r ∷ rs) qs = ap (λ l. say r ++ l) (joined-append say rs qs) ∙ sym (append_assoc (say r) (flat_map say rs) (flat_map say qs))
 
 -- records that say nothing, and one thing each
 pub silent : {X : Type 0} (say : At → List X) (rs : List At) → AllByRecursion (λ r. say r ≡ []) rs → flat_map say rs ≡ []
@@ -38,7 +35,7 @@ placed-append (x ∷ xs) ys at =
     ap (λ l. (at, x) ∷ l)
     (placed-append xs ys (at + length (bytes_of x)) ∙ ap (λ p. placed_from (at + length (bytes_of x)) xs ++ placed_from p ys) (omega arith))
 
-placed-length : (xs : List Shown) (at : ℕ) → length (placed_from at xs) ≡ length xs
+pub placed-length : (xs : List Shown) (at : ℕ) → length (placed_from at xs) ≡ length xs
 unfolding placed_from
 placed-length [] at = refl
 placed-length (x ∷ xs) at = ap suc (placed-length xs (at + length (bytes_of x)))
@@ -94,7 +91,7 @@ pub record Behind {X : Type 0} (say : At → List X) (k : ℕ) (rs : List At) : 
 
 -- A section says what its own records say.
 own : {X : Type 0} (say : At → List X) (k : ℕ) (rs qs : List At) → Behind say k qs → flat_map say (rs ++ up_to k qs) ≡ flat_map say rs
-own say k rs qs b = joined-append say rs (up_to k qs) ∙ ap (λ l. flat_map say rs ++ l) b.quiet ∙ append-nil (flat_map say rs)
+own say k rs qs b = flat_map-append say rs (up_to k qs) ∙ ap (λ l. flat_map say rs ++ l) b.quiet ∙ append-nil (flat_map say rs)
 
 pub record Structs (n : ℕ) (rs : List At) : Type 0 where
   pub few : length (sections 0x02 rs) ≤ n
@@ -154,8 +151,8 @@ joined_same f g (r ∷ rs) h = let e = h.0 in let ih = joined_same f g rs h.1 in
 module _ {rs : List At} (p : Parts rs) where
   by_parts : {X : Type 0} (say : At → List X) → flat_map say rs ≡ flat_map say p.params ++ (flat_map say p.results ++ (flat_map say p.locals ++ flat_map say p.code))
   by_parts say =
-      ap (flat_map say) p.all ∙ joined-append say p.params _
-      ∙ ap (λ l. flat_map say p.params ++ l) (joined-append say p.results _ ∙ ap (λ l. flat_map say p.results ++ l) (joined-append say p.locals p.code))
+      ap (flat_map say) p.all ∙ flat_map-append say p.params _
+      ∙ ap (λ l. flat_map say p.params ++ l) (flat_map-append say p.results _ ∙ ap (λ l. flat_map say p.results ++ l) (flat_map-append say p.locals p.code))
 
   silent_in : {X : Type 0} (part : Part) (say : At → List X) → ((r : At) → Is part r.1 → say r ≡ []) → (qs : List At) → Of part qs → flat_map say qs ≡ []
   silent_in part say f qs h = silent say qs (each_of part (λ r. say r ≡ []) f qs h)
