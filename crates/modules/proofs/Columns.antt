@@ -13,7 +13,7 @@ use Rattle.modules.specs.declared.parts.Line.{Line}
 use Rattle.modules.specs.declared.parts.StructHead.{StructHead}
 use Rattle.modules.specs.declared.parts.Typed.{Typed}
 use Rattle.modules.specs.declared.rows.Rows.TheInside.{Inside}
-use Rattle.modules.specs.Modules.{Module, StructDefinition, FunctionDefinition, Section, is_kind, body_of, struct_of, function_of, field_in, param_in, result_in, local_in, line_in, struct_head, function_head}
+use Rattle.modules.specs.Modules.{Module, StructDefinition, FunctionDefinition, Section, is_kind, body_of, struct_of, function_of, field_in, param_in, result_in, local_in, line_in, no_module, no_struct, no_function, struct_at, function_at, struct_head, function_head, struct_head_at, function_head_at}
 use Rattle.modules.specs.Rows.{first, others, structs_of, functions_of, module_of, Aligned}
 use Rattle.modules.specs.Adding.{longer_struct, longer_function, added, Room}
 use Rattle.instructions.specs.declared.instruction.Instruction.{Instruction}
@@ -138,17 +138,51 @@ aligned {r} {m} c s f = record {
 pub columns_at : {r : Inside} {m : Module} → Aligned r → module_of r ≡ m → InColumns r m
 columns_at {r} a e = subst (InColumns r) e (columns_of r a)
 
--- reading by index
-pub read : {X Y : Type 0} (f : X → Y) (xs : List X) {ys : List Y} (i : ℕ) (d : X) → ys ≡ map f xs → get_or ys i (f d) ≡ f (get_or xs i d)
+-- an element of a column, past the last too
+read : {X Y : Type 0} (f : X → Y) (xs : List X) {ys : List Y} (i : ℕ) (d : X) → ys ≡ map f xs → get_or ys i (f d) ≡ f (get_or xs i d)
 read f xs i d e = ap (λ l. get_or l i (f d)) e ∙ get_or-map f xs i d
+
+abbrev pub struct_with : StructHead → List Typed → StructDefinition
+struct_with h fields = record { abilities = h.abilities; fields = fields; place = h.place }
+
+abbrev pub function_with : FunctionHead → List Typed → List Typed → List Typed → List Line → FunctionDefinition
+function_with h params results locals code =
+    record { visibility = h.visibility; params = params; results = results; locals = locals; code = code; place = h.place }
+
+pub struct_at_lem : (r : Inside) {m : Module} (i : ℕ) → Aligned r → module_of r ≡ m → struct_at m i ≡ struct_with (get_or (vec_items r.structs) i (struct_head no_struct)) (get_or r.fields i [])
+struct_at_lem r {m} i a e =
+    let c = columns_at a e in
+    let h = read struct_head m.structs i no_struct c.structs in
+    let f = read (λ s. s.fields) m.structs i no_struct c.fields in
+    rw (h, f)
+
+pub function_at_lem : (r : Inside) {m : Module} (i : ℕ) → Aligned r → module_of r ≡ m
+    → function_at m i ≡ function_with (get_or (vec_items r.functions) i (function_head no_function)) (get_or r.params i []) (get_or r.results i []) (get_or r.locals i []) (get_or r.code i [])
+function_at_lem r {m} i a e =
+    let c = columns_at a e in
+    let h = read function_head m.functions i no_function c.functions in
+    let p = read (λ f. f.params) m.functions i no_function c.params in
+    let s = read (λ f. f.results) m.functions i no_function c.results in
+    let l = read (λ f. f.locals) m.functions i no_function c.locals in
+    let d = read (λ f. f.code) m.functions i no_function c.code in
+    rw (h, p, s, l, d)
 
 there : {X Y : Type 0} (f : X → Y) (xs : List X) (i : ℕ) (d : X) → slice_get (map f xs) i ≡ cond (ltb i (length xs)) (Some (f (get_or xs i d))) None
 there f [] i d = let e = le-ltb i 0 (omega arith) in rw e
 there f (x ∷ xs) zero d = let e = lt-ltb 0 (length (x ∷ xs)) (omega arith) in rw e
 there f (x ∷ xs) (suc i) d = let ih = there f xs i d in grind (arith, nat_tests)
 
-pub read_head : {X Y : Type 0} (f : X → Y) (xs : List X) {ys : List Y} (i : ℕ) (d : X) → ys ≡ map f xs → slice_get ys i ≡ cond (ltb i (length xs)) (Some (f (get_or xs i d))) None
-read_head f xs i d e = ap (λ l. slice_get l i) e ∙ there f xs i d
+pub struct_head_lem : (r : Inside) {m : Module} (i : ℕ) → Aligned r → module_of r ≡ m → slice_get (vec_items r.structs) i ≡ struct_head_at m i
+struct_head_lem r {m} i a e = ap (λ l. slice_get l i) (columns_at a e).structs ∙ there struct_head m.structs i no_struct
+
+pub function_head_lem : (r : Inside) {m : Module} (i : ℕ) → Aligned r → module_of r ≡ m → slice_get (vec_items r.functions) i ≡ function_head_at m i
+function_head_lem r {m} i a e = ap (λ l. slice_get l i) (columns_at a e).functions ∙ there function_head m.functions i no_function
+
+-- without a struct and a function there is no module
+pub no_module_lem : (n : ℕ) (hs : List StructHead) (fs : List (List Typed)) (gs : List FunctionHead) (ps rs ls : List (List Typed)) (cs : List (List Line)) → n ≡ 0 → hs ≡ [] → gs ≡ []
+    → ◌≡◌ {A = Module} (record { number = n; structs = structs_of hs fs; functions = functions_of gs ps rs ls cs }) no_module
+unfolding structs_of functions_of
+no_module_lem n hs fs gs ps rs ls cs e s f = rw (e, s, f)
 
 -- these items at the end of the last list
 abbrev pub grown : {X : Type 0} → List X → List (List X) → List (List X)

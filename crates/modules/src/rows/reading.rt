@@ -44,6 +44,7 @@ impl Rows {
     }
 
     // The parameters of a function, and below its results, locals and code; past the last function there are none.
+    // Each is a call of its own, since their columns lie apart, and one call that lent all four would look up three for nothing.
     pub fn params(&self, index: usize) -> &[Typed]
         ensures { result.now ≡ (function_at self.now index).params }
     {

@@ -1,7 +1,6 @@
-use Rattle.std.proofs.Common.{◌∙◌}
-use Rattle.modules.specs.Modules.{no_struct}
-use Rattle.modules.proofs.Columns.{columns_at, read}
+use Rattle.std.proofs.Common.{sym, ap, ◌∙◌}
+use Rattle.modules.proofs.Columns.{struct_at_lem}
 use Rattle.modules.proofs.rows.Rows.fields.Goals as goal
 
 pub returns : goal.returns
-returns c = c.get.ensures ∙ read (λ s. s.fields) c.args.self.now.structs c.args.index no_struct (columns_at c.self.invariant c.self.view_is).fields
+returns c = c.get.ensures ∙ sym (ap (λ s. s.fields) (struct_at_lem c.self.inside c.args.index c.self.invariant c.self.view_is))

@@ -1,7 +1,6 @@
-use Rattle.std.proofs.Common.{rules}
-use Rattle.modules.specs.Rows.{structs_of, functions_of}
+use Rattle.std.proofs.Common.{refl}
+use Rattle.modules.proofs.Columns.{no_module_lem}
 use Rattle.modules.proofs.rows.Rows.new.Goals as goal
 
 pub returns : goal.returns
-unfolding structs_of functions_of
-returns c = search rules
+returns c = no_module_lem _ _ _ _ _ _ _ _ refl c.in_ok-structs.ensures.items c.in_ok-functions.ensures.items

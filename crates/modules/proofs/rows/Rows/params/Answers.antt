@@ -1,7 +1,6 @@
-use Rattle.std.proofs.Common.{◌∙◌}
-use Rattle.modules.specs.Modules.{no_function}
-use Rattle.modules.proofs.Columns.{columns_at, read}
+use Rattle.std.proofs.Common.{sym, ap, ◌∙◌}
+use Rattle.modules.proofs.Columns.{function_at_lem}
 use Rattle.modules.proofs.rows.Rows.params.Goals as goal
 
 pub returns : goal.returns
-returns c = c.get.ensures ∙ read (λ f. f.params) c.args.self.now.functions c.args.index no_function (columns_at c.self.invariant c.self.view_is).params
+returns c = c.get.ensures ∙ sym (ap (λ f. f.params) (function_at_lem c.self.inside c.args.index c.self.invariant c.self.view_is))
