@@ -23,6 +23,7 @@ pub fn read_module(bytes: &[u8]) -> Result<usize, Fault>
     let mut walk = Walk::over(bytes);
     let mut progress = Progress::START;
     let mut records = 0;
+    // A `while`, since the grammar says where the records end, and `next_record` why there is no further one: a `for` over the walk would lose that.
     while !progress.is_over() {
         let placed = walk.next_record()?;
         progress = progress

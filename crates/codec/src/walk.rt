@@ -5,7 +5,7 @@ ghost use Rattle.codec.specs.FirstRecord.{read_one};
 ghost use Rattle.codec.specs.Walking.{placed, shown_placed, place_after, shown_at, to_come, records_in};
 
 use super::reading::read_record;
-use bytecode::{Fault, Record};
+use bytecode::{Fault, Reason, Record};
 
 // A record with the offset of its kind byte.
 #[derive(Clone, Copy)]
@@ -40,7 +40,10 @@ impl<'a> Walk<'a> {
         ensures same { self.new.«module».now ≡ self.old.«module».now }
     {
         let place = self.place;
-        let rest = self.module.get(place..).unwrap_or_default();
+        if place >= self.module.len() {
+            return Err(Reason::MissingEnd.at(place));
+        }
+        let rest = &self.module[place..];
         let (record, after) = read_record(rest).map_err(|reason| reason.at(place))?;
         self.place = self.module.len() - after.len();
         Ok(Placed { place, record })

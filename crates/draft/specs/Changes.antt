@@ -20,7 +20,3 @@ changed c = (c.key, words_left c.words)
 
 abbrev pub rising : List Change → Bool
 rising cs = sorted change_key key_before cs
-
--- the least of all keys
-abbrev pub first_key : Key
-first_key = record { address = 0; «module» = 0; index = 0 }

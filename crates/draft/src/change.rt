@@ -1,7 +1,8 @@
 // A change of one key: the words that it has then, or none where its pair is taken out.
 use store::{Key, Words};
 
-#[derive(Clone, Copy)]
+// `Default`, since an `ArrayVec` fills the places that are not in use.
+#[derive(Clone, Copy, Default)]
 pub struct Change {
     pub(crate) key: Key,
     pub(crate) words: Option<Words>,

@@ -15,26 +15,18 @@ pub enum BadLine {
     OddHexDigits,
 }
 
-impl BadLine {
-    fn words(self) -> &'static str
-        ensures { result.now ≡ words_of self }
-    {
-        match self {
-            BadLine::UnknownCommand => "there is no such command",
-            BadLine::MissingOperand => "an operand is missing",
-            BadLine::ExtraWord => "a word too many",
-            BadLine::NoHexDigit => "a character that is no hex digit",
-            BadLine::OddHexDigits => "an odd number of hex digits",
-        }
-    }
-}
-
 // By hand, as thiserror's derive writes a Display with no contract, and the text is proved here.
 impl fmt::Display for BadLine {
     ghost output = { λ x. Some (words_of x) };
 
     fn fmt<W: fmt::Write>(&self, f: &mut fmt::Formatter<W>) -> fmt::Result {
-        f.write_str(self.words())
+        f.write_str(match self {
+            BadLine::UnknownCommand => "there is no such command",
+            BadLine::MissingOperand => "an operand is missing",
+            BadLine::ExtraWord => "a word too many",
+            BadLine::NoHexDigit => "a character that is no hex digit",
+            BadLine::OddHexDigits => "an odd number of hex digits",
+        })
     }
 }
 

@@ -44,7 +44,7 @@ fn answer_read(heap: Global, bytes: &[u8], out: &mut String) -> io::Result<()>
     Ok(())
 }
 
-// Appends the answer to a line, whose number counts from 1, and says whether the line has the form of one.
+// Appends the answer to a line, whose number counts from 1, and says whether the line has the form of one: a bool and no error, since a bad line is answered too.
 pub fn answer_line(heap: Global, number: u64, line: &[u8], out: &mut String) -> io::Result<bool>
     ensures text { OnOk result (string_bytes out.new ≡ string_bytes out.old ++ line_answer number (parsed line.now)) }
     ensures good { IfOk result (λ good. good ≡ is_ok (parsed line.now)) }

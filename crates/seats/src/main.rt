@@ -6,7 +6,7 @@ use script::answer_line;
 use std::io::{BufRead, BufReader, Read};
 use std::{env, fs, io};
 
-// Answers each line of the source, and says whether all had the form of one.
+// Answers each line of the source, and says whether all had the form of one: no error, since a bad line is answered and the next one read.
 fn run_script<R: Read + Drop>(rt: &HostRuntime, source: R) -> io::Result<bool> {
     let heap = rt.alloc();
     let mut good = true;

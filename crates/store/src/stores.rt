@@ -28,7 +28,7 @@ pub trait Store {
     fn free_touches(&self) -> Option<usize>
         ensures { result ≡ free_touches (means self.now).touched };
 
-    // The words go into the caller's place, since a store allocates nothing once it is made.
+    // The words go into the caller's place and are not lent: a store of a host's may keep them in another form, and no store allocates once it is made.
     fn read(&self, key: Key, place: &mut [u64; 16]) -> usize
         ensures count { result ≡ length (words_of (entry key (means self.now).pairs)) }
         ensures place { place.new ≡ shown (entry key (means self.now).pairs) place.old };
