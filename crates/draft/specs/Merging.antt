@@ -61,10 +61,11 @@ cap_holds (Some ks) n = nat_le (length ks + n) cap
 abbrev pub merge_fits : List Entry → Model → Bool
 merge_fits ts m = nat_le (length (overlay ts m.pairs)) m.limit && cap_holds m.touched (touched_anew m ts)
 
--- whether it fits is known: the limit is at least 64 under the largest word
+-- the limit is at least 64 under the largest word: then it is known what `fits_below` and `merge` answer
 abbrev pub HasRoomAbove : Model → Type 0
 HasRoomAbove m = m.limit + cap ≤ largest_word
 
+-- a merge that does not fit is refused
 abbrev pub merge_answer : List Entry → Model → Result (Unit {0}) NoFit
 merge_answer ts m = cond (merge_fits ts m) (Ok tt) (Err (record {}))
 

@@ -40,7 +40,7 @@ impl<S: Store> Store for Draft<S> {
     }
 
     fn free_touches(&self) -> Option<usize> {
-        Some(64 - self.changes.as_slice().len())
+        Some(self.changes.rows.remaining_capacity())
     }
 
     fn read(&self, key: Key, place: &mut [u64; 16]) -> usize {
