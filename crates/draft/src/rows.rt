@@ -13,7 +13,7 @@ use super::change::Change;
 use super::changes::Changes;
 use arrayvec::ArrayVec;
 use store::{Key, Refusal};
-use table::find;
+use table::{find, get};
 
 impl Changes {
     pub fn new() -> Changes
@@ -35,8 +35,7 @@ impl Changes {
     pub fn get(&self, key: Key) -> Option<&Change>
         ensures { option_map (λ x. x.now) result ≡ rows.look change_key key_before key self.now.rows.items }
     {
-        let at = self.find(key).ok()?;
-        Some(&self.rows.as_slice()[at])
+        get(self.rows.as_slice(), key)
     }
 
     // Puts a change in the place of that of its key, or adds it, unless that would touch a 65th key.

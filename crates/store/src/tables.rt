@@ -12,7 +12,7 @@ use super::refusals::Refusal;
 use super::stores::{ListingStore, Store, UncappedStore};
 use super::table_store::TableStore;
 use super::words::Words;
-use table::{find, insert, next, remove};
+use table::{get, insert, next, remove};
 
 const MOST_ROWS: usize = 4096;
 
@@ -42,9 +42,7 @@ impl TableStore {
     fn get(&self, key: Key) -> Option<&Pair>
         ensures { option_map (λ x. x.now) result ≡ look pair_key key_before key (take self.now.used self.now.rows.items) }
     {
-        let pairs = self.in_use();
-        let at = find(pairs, key).ok()?;
-        Some(&pairs[at])
+        get(self.in_use(), key)
     }
 }
 

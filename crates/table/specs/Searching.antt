@@ -1,5 +1,5 @@
 -- What the search answers for any rows, sorted or not, and what that is for sorted ones.
-use Rattle.std.specs.Prelude.{ℕ, zero, suc, ◌+◌, ◌/◌, Bool, cond, List, [], ◌∷◌, length, take, drop, is_some, Ok, Err, Option, Result}
+use Rattle.std.specs.Prelude.{ℕ, zero, suc, ◌+◌, ◌/◌, Bool, cond, List, [], ◌∷◌, length, take, drop, is_some, None, Ok, Err, Option, Result}
 use Rattle.table.specs.Rows.{look, place, first}
 
 module _ {R K : Type 0} (key : R → K) (before : K → K → Bool) where
@@ -28,6 +28,14 @@ module _ {R K : Type 0} (key : R → K) (before : K → K → Bool) where
   -- among sorted rows: the place of the record, or where it would be put
   abbrev pub found_sorted : K → List R → Result ℕ ℕ
   found_sorted k rs = cond (is_some (look key before k rs)) (Ok (place key before k rs)) (Err (place key before k rs))
+
+  -- the record that is found, if there is one
+  abbrev pub at_found : List R → Result ℕ ℕ → Option R
+  at_found rs (Ok at) = first (drop at rs)
+  at_found rs (Err at) = None
+
+  abbrev pub look_found : K → List R → Option R
+  look_found k rs = at_found rs (found k rs)
 
   -- the record behind the one that is found, or where it would be put
   abbrev pub behind_found : List R → Result ℕ ℕ → Option R

@@ -7,4 +7,4 @@ mod search;
 
 pub use edits::{Full, insert, remove};
 pub use keys::Keyed;
-pub use search::{find, next};
+pub use search::{find, get, next};

@@ -1,8 +1,9 @@
 // A search by halves among rows.
 ghost use Rattle.std.specs.Prelude.{◌≡◌, ◌<◌, ◌≤◌, true, length, MatchResult};
+ghost use Rattle.std.specs.Option.{option_map};
 ghost use Rattle.std.specs.Ordering.{partial_lt};
-ghost use Rattle.table.specs.Rows.{sorted, next as next_after};
-ghost use Rattle.table.specs.Searching.{spot, found, found_sorted, next_found};
+ghost use Rattle.table.specs.Rows.{look, sorted, next as next_after};
+ghost use Rattle.table.specs.Searching.{spot, found, found_sorted, look_found, next_found};
 
 use super::keys::Keyed;
 
@@ -35,6 +36,15 @@ pub fn find<R: Keyed>(rows: &[R], key: R::Key) -> Result<usize, usize>
         Some(row) if row.key() <= key => Ok(at),
         _ => Err(at),
     }
+}
+
+// The record with `key`.
+pub fn get<R: Keyed>(rows: &[R], key: R::Key) -> Option<&R>
+    ensures answer { option_map (λ x. x.now) result ≡ look_found R.keyof (partial_lt R.Key.partial_cmp) key rows.now }
+    ensures sorted { sorted R.keyof (partial_lt R.Key.partial_cmp) rows.now ≡ true → option_map (λ x. x.now) result ≡ look R.keyof (partial_lt R.Key.partial_cmp) key rows.now }
+{
+    let at = find(rows, key).ok()?;
+    rows.get(at)
 }
 
 // The first record whose key comes after `key`.
