@@ -1,7 +1,7 @@
 // Times finding, putting and removing in a table store; without an argument it does nothing.
 #![tactic(auto)]
 
-use anyhow::{Context, ensure};
+use anyhow::{bail, ensure};
 use std::env;
 use std::time::Instant;
 use store::{Key, Pair, Store, TableStore};
@@ -27,7 +27,9 @@ fn mixed(turn: u64, mask: u64) -> Key {
 
 // A full store of so many rows, with the addresses from 0.
 fn full(rt: &HostRuntime, rows: usize) -> anyhow::Result<TableStore> {
-    let row = Pair::new(key(0), &[0]).context("one word is no pair")?;
+    let Ok(row) = Pair::new(key(0), &[0]) else {
+        bail!("one word is no pair");
+    };
     let mut store = TableStore::over(vec![in rt.alloc(); row; rows]?);
     for address in 0..rows as u64 {
         ensure!(
@@ -47,7 +49,7 @@ fn each(rt: &HostRuntime, start: Instant, turns: u64) -> anyhow::Result<u128> {
     Ok(all / turns as u128)
 }
 
-// The store has the addresses up to the mask.
+// The store has the addresses up to the mask. What goes wrong is told when the clock has been read.
 fn measure(rt: &HostRuntime, rows: usize, mask: u64) -> anyhow::Result<()> {
     let mut store = full(rt, rows)?;
     let mut good = true;

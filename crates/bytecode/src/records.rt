@@ -62,7 +62,8 @@ fn bare<'a>(record: Record<'a>, body: &[u8]) -> Result<Record<'a>, Reason>
 }
 
 impl<'a> Record<'a> {
-    // The record of this kind with this body: from two values, so no `TryFrom`. A kind stays a byte, as a module may have any; `Record` is itself the enum of kinds.
+    // The record of this kind with this body; no `TryFrom`, since callers have the two apart. A kind stays a byte here, as a module or a host may have any:
+    // `Record` is itself the enum of kinds, and one beside it would list the 31 cases three times more.
     #[tactic(auto, unfolding(crate::specs::Kinds::body_length))]
     pub fn of(kind: u8, body: &'a [u8]) -> Result<Record<'a>, Reason>
         ensures { shown_ok result ≡ formed (kind, body.now) }

@@ -23,7 +23,8 @@ pub fn read_module(bytes: &[u8]) -> Result<usize, Fault>
     let mut walk = Walk::over(bytes);
     let mut progress = Progress::START;
     let mut records = 0;
-    // A `while`, since the grammar says where the records end, and `next_record` why there is no further one: a `for` over the walk would lose that.
+    // A `while`, since the grammar says where the records end, and `next_record` why there is no further one. Were that an item of the walk,
+    // each other loop over records would have to pass over it.
     while !progress.is_over() {
         let placed = walk.next_record()?;
         progress = progress

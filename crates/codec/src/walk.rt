@@ -14,7 +14,7 @@ pub struct Placed<'a> {
     pub record: Record<'a>,
 }
 
-// The module, and where its next record should begin.
+// The module, and where its next record should begin: a place, and not the bytes that are left, since faults and listings tell it.
 #[derive(Clone, Copy)]
 pub struct Walk<'a> {
     module: &'a [u8],

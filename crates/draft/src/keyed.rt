@@ -1,4 +1,5 @@
 // The key of a change.
+ghost use Rattle.store.specs.Orders.{keys_in_order};
 ghost use Rattle.draft.specs.Changes.{change_key};
 
 use super::change::Change;
@@ -9,6 +10,8 @@ impl Keyed for Change {
     type Key = Key;
 
     ghost keyof = { change_key };
+
+    ghost order = { keys_in_order };
 
     fn key(&self) -> Key {
         self.key

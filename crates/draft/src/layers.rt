@@ -93,7 +93,7 @@ impl<S: Store> Draft<S> {
             .count()
     }
 
-    // How many changes take a pair out that is there below.
+    // How many changes take a pair out that is there below. Like `added` but for its test: a test passed in would need clauses on its calls.
     fn taken(&self) -> usize
         ensures { result ≡ count_by (λ c. takes (S.Store.means self.now.below).pairs (changed c)) self.now.changes.rows.items }
     {

@@ -8,14 +8,14 @@ use super::drafts::Draft;
 use store::{Key, Store};
 
 impl Change {
-    // The key that was touched.
+    // The key that was touched, for hosts that do not know the table's trait `Keyed`.
     pub fn touched(&self) -> Key
         ensures { result ≡ (changed self.now).0 }
     {
         self.key
     }
 
-    // The words that the key has then, or none where its pair is taken out.
+    // The words that the key has then, or none where its pair is taken out: no `Option`, as a change in specs/ is a key with a list of words too.
     pub fn words(&self) -> &[u64]
         ensures { result.now ≡ (changed self.now).1 }
     {

@@ -13,7 +13,7 @@ use store::Store;
 #[derive(Clone, Copy, PartialEq, Eq, Debug)]
 pub struct NoFit;
 
-// Removes from a store what the changes take out.
+// Removes from a store what the changes take out. Answers are not looked at, here and below: `merge` proves that none is a refusal.
 fn remove_all<S: Store>(below: &mut S, changes: &[Change])
     ensures below { S.Store.means below.new ≡ removing (map changed changes.now) (S.Store.means below.old) }
     ensures under { S.Store.under below.new ≡ S.Store.under below.old }

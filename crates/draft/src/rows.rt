@@ -13,7 +13,6 @@ use super::change::Change;
 use super::changes::Changes;
 use arrayvec::ArrayVec;
 use store::{Key, Refusal};
-use table::{find, get};
 
 impl Changes {
     pub fn new() -> Changes
@@ -29,16 +28,17 @@ impl Changes {
         ensures answer { result ≡ found_sorted change_key key_before key self.now.rows.items }
         ensures bound { MatchResult result (λ at. at < length self.now.rows.items) (λ at. at ≤ length self.now.rows.items) }
     {
-        find(self.rows.as_slice(), key)
+        table::find(self.rows.as_slice(), key)
     }
 
     pub fn get(&self, key: Key) -> Option<&Change>
         ensures { option_map (λ x. x.now) result ≡ rows.look change_key key_before key self.now.rows.items }
     {
-        get(self.rows.as_slice(), key)
+        table::get(self.rows.as_slice(), key)
     }
 
-    // Puts a change in the place of that of its key, or adds it, unless that would touch a 65th key.
+    // Puts a change in the place of that of its key, or adds it, unless that would touch a 65th key. Not by the table's `insert`, which
+    // moves rows of a slice: an `ArrayVec` has an `insert` of its own.
     pub fn note(&mut self, change: Change) -> Result<(), Refusal>
         ensures answer { result ≡ (if may_touch (Some (map key_of (entries self.old))) change.key then Ok tt else Err Refusal.TooManyTouched) }
         ensures after { entries self.new ≡ (if is_ok result then rows.put key_of key_before (changed change) (entries self.old) else entries self.old) }

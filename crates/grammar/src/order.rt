@@ -6,6 +6,7 @@ ghost use Rattle.grammar.specs.Order.{part_of, may_follow, most, had, counting, 
 use bytecode::{Reason, Record};
 
 // The parts of a module, of which each record is one. `Start` is before the first record, and every instruction is `Code`.
+// `Start` is a part, and no `None`, since what may follow it is a line of the same table.
 #[derive(Clone, Copy, Debug, PartialEq, Eq)]
 pub enum Part {
     Start,

@@ -6,7 +6,7 @@ use std::alloc::{AllocError, Global};
 use std::marker::Model;
 
 // The most groups, and the most items, that there is memory for.
-pub const MOST: usize = 4096;
+const MOST: usize = 4096;
 
 // Clauses see the list of the groups, each as the list of its items.
 // No `Vec` of `Vec`s, since memory for `MOST` of both is reserved in `new`, and no later call can fail for want of it.
@@ -64,7 +64,7 @@ impl<T: Copy> Grouped<T> {
         }
     }
 
-    // The group with this index, or nothing past the last.
+    // The group with this index. Past the last it is an empty slice and no `None`, since callers go over it either way.
     pub fn get(&self, i: usize) -> &[T]
         ensures { result.now ≡ slice_index_or self.now i [] }
     {

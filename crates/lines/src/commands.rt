@@ -14,7 +14,7 @@ pub enum Command {
     Read(Vec<u8>),
 }
 
-// Whether a line whose first word this is says nothing: it is blank, or a comment.
+// Whether a line says nothing, by its first word: it is blank, or a comment.
 fn says_nothing(word: &[u8]) -> bool
     ensures { result ≡ says_nothing word.now }
 {
@@ -28,8 +28,8 @@ fn bytes_operand(heap: Global, operands: &[u8]) -> Result<Vec<u8>, LineError>
     let (word, behind) = first_word(operands);
     let (extra, _) = first_word(behind);
     match (word, extra) {
-        ([], _) => Err(LineError::Bad(BadLine::MissingOperand)),
-        (_, [_, ..]) => Err(LineError::Bad(BadLine::ExtraWord)),
+        ([], _) => Err(BadLine::MissingOperand.into()),
+        (_, [_, ..]) => Err(BadLine::ExtraWord.into()),
         (b"-", []) => Ok(Vec::new(heap)),
         (_, []) => decode_hex(heap, word),
     }
@@ -43,6 +43,6 @@ pub fn parse_line(heap: Global, line: &[u8]) -> Result<Option<Command>, LineErro
     match name {
         _ if says_nothing(name) => Ok(None),
         b"read" => Ok(Some(Command::Read(bytes_operand(heap, operands)?))),
-        _ => Err(LineError::Bad(BadLine::UnknownCommand)),
+        _ => Err(BadLine::UnknownCommand.into()),
     }
 }

@@ -12,7 +12,7 @@ fn hex_digit(c: u8) -> Option<u8>
     char::from(c).to_digit(16).map(|digit| digit as u8)
 }
 
-// The bytes that this text writes, or what is wrong with it.
+// The bytes that this text writes, or what is wrong with it. Not by the kit's crate `hex`, which tells an odd length before a wrong digit.
 pub fn decode_hex(heap: Global, text: &[u8]) -> Result<Vec<u8>, LineError>
     ensures { UnlessOutOfMemory result (λ o. items_of o ≡ unhex text.now) }
 {

@@ -1,4 +1,4 @@
-// The words of a line, which blanks set apart.
+// The words of a line, which blanks set apart. No `split`, since a command takes the first word and leaves all that stands behind it to its operands.
 ghost use Rattle.std.specs.Prelude.{◌≡◌, ◌≤◌, length};
 ghost use Rattle.lines.specs.Words.{blank, past_blanks, word_length, first_word, after_word};
 

@@ -29,6 +29,7 @@ impl From<u8> for Visibility {
 }
 
 // The type of a field, a parameter, a result or a local.
+// This and the three below are no one generic struct: each names what stands at its place, and nothing is done alike with all four.
 #[derive(Clone, Copy, Debug, PartialEq, Eq)]
 pub struct Typed {
     pub ty: TypeRef,

@@ -11,6 +11,7 @@ mod reading;
 // when rows are made, and decoding can't fail for want of it. No record is shorter than a byte, so memory for 4,096 of each is enough for every module.
 #[derive(Drop)]
 pub struct Rows {
+    // 0 where there is no module, which no readable one has
     number: u16,
     structs: Vec<StructHead>,
     fields: Grouped<Typed>,

@@ -18,6 +18,7 @@ fn same_again(heap: Global, bytes: &[u8]) -> Result<bool, AllocError>
     Ok(rewrite_module(bytes, &mut buffer) == Ok(bytes.len()) && buffer.as_slice() == bytes)
 }
 
+// A function of its own, so that what `answer_read` writes is proved as one text.
 fn same_words(same: bool) -> &'static str
     ensures { result.now ≡ same_text same }
 {

@@ -1,6 +1,6 @@
+// What lines of a script are answered, line by line.
 #![tactic(auto)]
 
-// What lines of a script are answered, line by line.
 #[cfg(test)]
 mod tests {
     use script::answer_line;

@@ -1,7 +1,7 @@
 -- The order of keys is total, and is what `<` answers.
 use Rattle.std.specs.Prelude.{◌≡◌, ℕ}
 use Rattle.std.specs.Ordering.{partial_lt}
-use Rattle.std.proofs.Common.{ap, ◌∙◌, arith}
+use Rattle.std.proofs.Common.{sym, ap, ◌∙◌, subst, arith}
 use Rattle.std.proofs.lemmas.Bool.Decides.{nat_tests}
 use Rattle.table.specs.Order.{Order}
 use Rattle.store.specs.contracts.keys.KeyPartialOrd.TheImpl.{ghosts}
@@ -27,3 +27,7 @@ key_less i x y = less x y i
   where
     less : (x y : Key) → partial_lt ghosts.partial_cmp x y ≡ key_before x y
     less x y = grind (arith, nat_tests)
+
+-- the law of a record with such a key
+pub keys_in_order : Order (partial_lt ghosts.partial_cmp)
+keys_in_order = subst Order (sym key_less) key_order

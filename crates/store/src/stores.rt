@@ -28,16 +28,19 @@ pub trait Store {
     fn free_touches(&self) -> Option<usize>
         ensures { result ≡ free_touches (means self.now).touched };
 
-    // The words go into the caller's place and are not lent: a store of a host's may keep them in another form, and no store allocates once it is made.
+    // Fills the caller's place with the words and zeros behind them, and answers how many there are: 0, and the place as it was, where the key is absent.
+    // They go into memory that the caller has and are not lent, since a host's own store may keep them in another form.
     fn read(&self, key: Key, place: &mut [u64; 16]) -> usize
         ensures count { result ≡ length (words_of (entry key (means self.now).pairs)) }
         ensures place { place.new ≡ shown (entry key (means self.now).pairs) place.old };
 
+    // Gives the key these words, unless that is refused: by 41, 36 or 40, the first of these that holds.
     fn put(&mut self, key: Key, words: &[u64]) -> Result<(), Refusal>
         ensures answer { result ≡ put_answer (means self.old) key words.now }
         ensures after { means self.new ≡ put_after (means self.old) key words.now result }
         ensures under { under self.new ≡ under self.old };
 
+    // Takes the key's pair out, and answers whether there was one; 36 alone refuses it.
     fn remove(&mut self, key: Key) -> Result<bool, Refusal>
         ensures answer { result ≡ remove_answer (means self.old) key }
         ensures after { means self.new ≡ remove_after (means self.old) key result }

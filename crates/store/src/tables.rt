@@ -12,7 +12,6 @@ use super::refusals::Refusal;
 use super::stores::{ListingStore, Store, UncappedStore};
 use super::table_store::TableStore;
 use super::words::Words;
-use table::{get, insert, next, remove};
 
 const MOST_ROWS: usize = 4096;
 
@@ -42,7 +41,7 @@ impl TableStore {
     fn get(&self, key: Key) -> Option<&Pair>
         ensures { option_map (λ x. x.now) result ≡ look pair_key key_before key (take self.now.used self.now.rows.items) }
     {
-        get(self.in_use(), key)
+        table::get(self.in_use(), key)
     }
 }
 
@@ -85,12 +84,12 @@ impl Store for TableStore {
     fn put(&mut self, key: Key, words: &[u64]) -> Result<(), Refusal> {
         let words = Words::try_from(words)?;
         let pair = Pair { key, words };
-        self.used = insert(&mut self.rows, self.used, pair).map_err(|_| Refusal::AtLimit)?;
+        self.used = table::insert(&mut self.rows, self.used, pair).map_err(|_| Refusal::AtLimit)?;
         Ok(())
     }
 
     fn remove(&mut self, key: Key) -> Result<bool, Refusal> {
-        let left = remove(&mut self.rows, self.used, key);
+        let left = table::remove(&mut self.rows, self.used, key);
         self.used = left.unwrap_or(self.used);
         Ok(left.is_some())
     }
@@ -104,7 +103,7 @@ impl ListingStore for TableStore {
     fn next(&self, after: Option<Key>) -> Option<Key> {
         let pairs = self.in_use();
         match after {
-            Some(key) => next(pairs, key).map(|pair| pair.key),
+            Some(key) => table::next(pairs, key).map(|pair| pair.key),
             None => pairs.first().map(|pair| pair.key),
         }
     }

@@ -1,7 +1,7 @@
 // 1 to 16 words, with zeros behind them.
 ghost use Rattle.std.specs.Prelude.{◌≡◌, ◌-◌, ◌≤◌, length, drop, replicate};
 
-// An array with a count, since the host's rows of pairs are of a fixed size, and a put allocates nothing.
+// An array with a count: a put allocates nothing, and an `ArrayVec` is not `Copy`, as rows are that are moved within a slice.
 #[derive(Clone, Copy)]
 pub struct Words {
     pub(crate) count: usize,

@@ -1,6 +1,6 @@
+// Tables, stores and drafts against answers that were worked out by hand.
 #![tactic(auto)]
 
-// Tables, stores and drafts against answers that were worked out by hand.
 #[cfg(test)]
 mod directories;
 #[cfg(test)]

@@ -16,7 +16,7 @@ pub(crate) fn key(address: u64, module: u16, index: u8) -> Key {
 }
 
 pub(crate) fn empty(rt: &HostRuntime, rows: usize) -> Result<TableStore, Fail> {
-    let Some(row) = Pair::new(key(1, 1, 1), &[1]) else {
+    let Ok(row) = Pair::new(key(1, 1, 1), &[1]) else {
         return Err(Fail::new("one word is no pair"));
     };
     Ok(TableStore::over(vec![in rt.alloc(); row; rows]?))
@@ -31,6 +31,7 @@ pub(crate) enum Call {
     Has,
 }
 
+// What a call is answered, of one type for all calls, so that a row of them can be listed.
 #[derive(Clone, Copy, PartialEq, Eq, Debug)]
 pub(crate) enum Answer {
     Done,

@@ -1,5 +1,5 @@
 -- The order of numbers: what `<` answers at them, and that it is total.
-use Rattle.std.proofs.Common.{arith}
+use Rattle.std.proofs.Common.{sym, subst, arith}
 use Rattle.std.proofs.lemmas.Bool.{ltb-true, ltb-false, lt-ltb, le-ltb}
 use Rattle.std.proofs.lemmas.Bool.Decides.{nat_tests}
 use Rattle.std.specs.Ordering.{nat_cmp, as_partial_cmp, partial_lt}
@@ -18,3 +18,7 @@ number_order = record {
   chain = λ x y z p q. lt-ltb x z (omega (arith, ltb-true x y p, ltb-true y z q));
   total = λ x y p q. omega (arith, ltb-false x y p, ltb-false y x q);
 }
+
+-- the law of a record whose key is a number
+pub numbers_in_order : Order (partial_lt (as_partial_cmp nat_cmp))
+numbers_in_order = subst Order (sym number_less) number_order

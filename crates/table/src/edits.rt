@@ -14,7 +14,8 @@ pub struct Full;
 
 // Puts `x` in the place of the record of its key, or adds it, and answers how many rows are in use then.
 // Where no row is free for it, the rows stay as they are.
-// The number in use stands beside the rows, since the host gives a fixed number of them, and no more are made.
+// The number in use stands beside the rows and in no value with them: the rows are a host's, in memory of a fixed size, and a value over
+// a `&mut` of them would be made anew at each call. A number beyond the rows counts as theirs.
 pub fn insert<R: Keyed>(rows: &mut [R], used: usize, x: R) -> Result<usize, Full>
     ensures answer { result ≡ insert_answer rows.old (take used rows.old) (found R.keyof (partial_lt R.Key.partial_cmp) (R.keyof x) (take used rows.old)) }
     ensures after { rows.new ≡ insert_after rows.old (take used rows.old) x (found R.keyof (partial_lt R.Key.partial_cmp) (R.keyof x) (take used rows.old)) }

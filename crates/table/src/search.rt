@@ -1,4 +1,5 @@
-// A search by halves among rows.
+// A search by halves among rows. Clauses name the key of a record and what `<` answers of two keys each time: a ghost member that held both
+// would be one more for each kind of record to give.
 ghost use Rattle.std.specs.Prelude.{◌≡◌, ◌<◌, ◌≤◌, true, length, MatchResult};
 ghost use Rattle.std.specs.Option.{option_map};
 ghost use Rattle.std.specs.Ordering.{partial_lt};
@@ -8,7 +9,7 @@ ghost use Rattle.table.specs.Searching.{spot, found, found_sorted, look_found, n
 use super::keys::Keyed;
 
 // Where halving ends: among sorted rows, how many come before `key`.
-// A loop, since `partition_point` and `binary_search_by_key` say nothing of rows out of order, where `find` answers too.
+// A loop: what `find` answers of rows out of order can't be proved by `partition_point` or `binary_search_by_key`, whose contracts say nothing of them.
 fn lower_bound<R: Keyed>(rows: &[R], key: R::Key) -> usize
     ensures { result ≡ spot R.keyof (partial_lt R.Key.partial_cmp) key rows.now }
 {

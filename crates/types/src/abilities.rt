@@ -17,7 +17,7 @@ fn only_if(a: bool, b: bool) -> bool
     !a || b
 }
 
-// The abilities that a struct's byte tells; bits from 16 on say nothing.
+// The abilities that a struct's byte tells; the upper four bits say nothing.
 impl From<u8> for Abilities {
     ghost from_gives = { λ byte abilities. abilities ≡ abilities_of byte };
 

@@ -24,7 +24,7 @@ impl Rows {
         self.structs.get(index).copied()
     }
 
-    // The fields of a struct; past the last struct there are none.
+    // The fields of a struct; past the last struct there are none: an empty slice and no `None`, since callers go over it either way.
     pub fn fields(&self, index: usize) -> &[Typed]
         ensures { result.now ≡ (struct_at self.now index).fields }
     {
@@ -44,7 +44,7 @@ impl Rows {
     }
 
     // The parameters of a function, and below its results, locals and code; past the last function there are none.
-    // Each is a call of its own, since their columns lie apart, and one call that lent all four would look up three for nothing.
+    // Each is a call of its own, since their columns lie apart: a view of one function would have these four methods again.
     pub fn params(&self, index: usize) -> &[Typed]
         ensures { result.now ≡ (function_at self.now index).params }
     {
