@@ -78,18 +78,31 @@ fn at_the_limit(rt: HostRuntime) -> Result<(), Fail> {
     Ok(())
 }
 
+// keys by their address, module and index
+const AS_PUT: [(u64, u16, u8); 7] = [
+    (2, 1, 1),
+    (1, 9, 9),
+    (18446744073709551615, 0, 0),
+    (2, 0, 3),
+    (3, 0, 0),
+    (2, 1, 0),
+    (2, 300, 0),
+];
+
+const IN_ORDER: [(u64, u16, u8); 7] = [
+    (1, 9, 9),
+    (2, 0, 3),
+    (2, 1, 0),
+    (2, 1, 1),
+    (2, 300, 0),
+    (3, 0, 0),
+    (18446744073709551615, 0, 0),
+];
+
 #[test]
 fn order(rt: HostRuntime) -> Result<(), Fail> {
     let mut store = empty(&rt, 8)?;
-    for (address, module, index) in [
-        (2, 1, 1),
-        (1, 9, 9),
-        (18446744073709551615, 0, 0),
-        (2, 0, 3),
-        (3, 0, 0),
-        (2, 1, 0),
-        (2, 300, 0),
-    ] {
+    for (address, module, index) in AS_PUT {
         let k = key(address, module, index);
         assert_eq!(rt;
             refused(&mut store, k, &[address, module as u64, index as u64]),
@@ -98,15 +111,7 @@ fn order(rt: HostRuntime) -> Result<(), Fail> {
         assert!(rt; store.has(k) && !store.touches(k) && store.free_touches().is_none());
     }
     let mut after = None;
-    for (address, module, index) in [
-        (1, 9, 9),
-        (2, 0, 3),
-        (2, 1, 0),
-        (2, 1, 1),
-        (2, 300, 0),
-        (3, 0, 0),
-        (18446744073709551615, 0, 0),
-    ] {
+    for (address, module, index) in IN_ORDER {
         after = store.next(after);
         assert_eq!(rt; after, Some(key(address, module, index)));
         let mut place = OLD;
