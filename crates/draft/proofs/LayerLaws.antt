@@ -1,5 +1,5 @@
 -- A draft's changes, and the layer that they make.
-use Rattle.std.proofs.Common.{◌≡◌, ℕ, ◌+◌, ◌-◌, ◌<◌, ◌≤◌, min, Bool, true, false, cond, ◌||◌, ltb, List, [], ◌∷◌, map, length, set, is_some, Some, None, Ok, Err, Option, Result, is_ok, sym, refl, ap, ◌∙◌, subst, ⊎_elim, arith}
+use Rattle.std.proofs.Common.{◌≡◌, ℕ, ◌+◌, ◌-◌, ◌<◌, ◌≤◌, min, Bool, true, false, cond, ◌||◌, ltb, List, [], ◌∷◌, map, length, set, take, is_some, Some, None, Ok, Err, Option, Result, is_ok, sym, refl, ap, ◌∙◌, subst, ⊎_elim, arith}
 use Rattle.std.specs.Option.{option_map}
 use Rattle.std.specs.List.{insert, count_by}
 use Rattle.std.proofs.lemmas.List.{length-map}
@@ -29,13 +29,13 @@ use Rattle.draft.specs.Changes.{change_key, changed, rising, words_left}
 use Rattle.draft.specs.Layer.{entries, layer}
 use Rattle.draft.specs.Overlay.{apply, overlay, left, shadow, adds, takes}
 use Rattle.draft.specs.Overlays.{entry-overlay, overlay-put, length-overlay, length-apply, count_overlay}
-use Rattle.draft.specs.Soundness.{ordered-entries}
+use Rattle.draft.specs.Soundness.{ordered-entries, length-entries, few_entries}
 
-pub entry_changes : (c : Changes) (k : Key) → entry k (entries c) ≡ option_map changed (rows.look change_key key_before k c.rows.items)
-entry_changes c k = map-look changed key_of key_before k c.rows.items
+pub entry_changes : (c : Changes) (k : Key) → entry k (entries c) ≡ option_map changed (rows.look change_key key_before k (take c.used c.rows))
+entry_changes c k = map-look changed key_of key_before k (take c.used c.rows)
 
 -- what a draft has at a key: its change, or what lies below
-pub entry-layer : (m : Model) (c : Changes) (k : Key) (o : Option Change) → Sound m → o ≡ rows.look change_key key_before k c.rows.items
+pub entry-layer : (m : Model) (c : Changes) (k : Key) (o : Option Change) → Sound m → o ≡ rows.look change_key key_before k (take c.used c.rows)
     → entry k (overlay (entries c) m.pairs) ≡ shadow (option_map changed o) (entry k m.pairs)
 entry-layer m c k o s e =
     entry-overlay k (entries c) m.pairs (ordered-entries c) s.rises
@@ -56,7 +56,7 @@ shown_left k [] place h = absurd (both_ways false refl h)
 shown_left k (w ∷ ws) place h = (refl, refl)
 
 -- a change that was found
-module _ (m : Model) (d : Changes) (k : Key) (c : Change) (s : Sound m) (e : Some c ≡ rows.look change_key key_before k d.rows.items) where
+module _ (m : Model) (d : Changes) (k : Key) (c : Change) (s : Sound m) (e : Some c ≡ rows.look change_key key_before k (take d.used d.rows)) where
   changed-entry : entry k (overlay (entries d) m.pairs) ≡ left c.key (words_left c.words)
   changed-entry = entry-layer m d k (Some c) s e
 
@@ -76,21 +76,24 @@ module _ (m : Model) (d : Changes) (k : Key) (c : Change) (s : Sound m) (e : Som
       rw there (refl, refl)
 
 -- no change of a key
-pub unchanged_entry : (m : Model) (d : Changes) (k : Key) → Sound m → None ≡ rows.look change_key key_before k d.rows.items → entry k m.pairs ≡ entry k (overlay (entries d) m.pairs)
+pub unchanged_entry : (m : Model) (d : Changes) (k : Key) → Sound m → None ≡ rows.look change_key key_before k (take d.used d.rows) → entry k m.pairs ≡ entry k (overlay (entries d) m.pairs)
 unchanged_entry m d k s e = sym (entry-layer m d k None s e)
 
 -- the touched keys, by the changes
-pub touched_entries : (c : Changes) (k : Key) → is_some (rows.look own key_before k (map key_of (entries c))) ≡ is_some (rows.look change_key key_before k c.rows.items)
+pub touched_entries : (c : Changes) (k : Key) → is_some (rows.look own key_before k (map key_of (entries c))) ≡ is_some (rows.look change_key key_before k (take c.used c.rows))
 touched_entries c k =
     ap is_some (map-look key_of own key_before k (entries c) ∙ ap (option_map key_of) (entry_changes c k))
-    ∙ is_some_mapped key_of (option_map changed (rows.look change_key key_before k c.rows.items))
-    ∙ is_some_mapped changed (rows.look change_key key_before k c.rows.items)
+    ∙ is_some_mapped key_of (option_map changed (rows.look change_key key_before k (take c.used c.rows)))
+    ∙ is_some_mapped changed (rows.look change_key key_before k (take c.used c.rows))
+
+pub free_entries : (c : Changes) → 64 - c.used ≡ cap - length (map key_of (entries c))
+free_entries c = ap (λ n. 64 - n) (sym (length-map _ _ ∙ length-entries c))
 
 -- noting a change, by where the search ends
 
 module _ (c : Changes) (x : Change) (at : ℕ) where
   abbrev old : List Change
-  old = c.rows.items
+  old = take c.used c.rows
 
   put_noted : (new : List Change) → new ≡ rows.put change_key key_before x old → (rising new ≡ true) × (map changed new ≡ rows.put key_of key_before (changed x) (entries c))
   put_noted new e =
@@ -220,12 +223,13 @@ count_map f p (x ∷ xs) =
 
 -- the pairs of a layer, counted
 pub size_of_layer : (m : Model) (d : Changes) → Sound m → m.limit + cap ≤ largest_word → (more fewer : ℕ)
-    → more ≡ count_by (λ c. adds m.pairs (changed c)) d.rows.items → fewer ≡ count_by (λ c. takes m.pairs (changed c)) d.rows.items
+    → more ≡ count_by (λ c. adds m.pairs (changed c)) (take d.used d.rows) → fewer ≡ count_by (λ c. takes m.pairs (changed c)) (take d.used d.rows)
     → min (length m.pairs + more) largest_word - fewer ≡ length (overlay (entries d) m.pairs)
 size_of_layer m d s room more fewer a b =
-    let c = count_map changed (adds m.pairs) d.rows.items in
-    let e = count_map changed (takes m.pairs) d.rows.items in
-    let few = count_by-le-length (λ c. adds m.pairs (changed c)) d.rows.items in
-    let most = d.few in
+    let c = count_map changed (adds m.pairs) (take d.used d.rows) in
+    let e = count_map changed (takes m.pairs) (take d.used d.rows) in
+    let few = count_by-le-length (λ c. adds m.pairs (changed c)) (take d.used d.rows) in
+    let most = few_entries d in
+    let long = length-map (take d.used d.rows) changed in
     let within = s.within in
     omega (arith, a, b, c, e, few, count_overlay (entries d) m.pairs (ordered-entries d) s.rises)

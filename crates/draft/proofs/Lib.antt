@@ -1,3 +1,4 @@
 pub mod Laws
 pub mod LayerLaws
 pub mod Merges
+pub mod Turning

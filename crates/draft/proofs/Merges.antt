@@ -414,3 +414,7 @@ each_next cs i c h at step m = ap (λ z. each step (map changed z) m) (drop_more
 pub anew_counted : (m : Model) (cs : List Change) → count_by (λ c. touches_anew m (changed c)) cs ≡ touched_anew m (map changed cs)
 anew_counted m [] = refl
 anew_counted m (c ∷ cs) = sum_by-cons (λ x. cond (touches_anew m (changed x)) 1 0) c cs ∙ ap (λ n. cond (touches_anew m (changed c)) 1 0 + n) (anew_counted m cs)
+
+pub anew_few : (m : Model) (es : List Entry) → touched_anew m es ≤ length es
+anew_few m [] = omega arith
+anew_few m (e ∷ es) = let ih = anew_few m es in grind (arith, nat_tests)

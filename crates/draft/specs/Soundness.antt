@@ -1,7 +1,7 @@
 -- A layer over a sound store is sound.
-use Rattle.std.specs.Prelude.{◌≡◌, ℕ, ◌≤◌, Bool, true, ◌&&◌, List, [], ◌∷◌, map, length, is_some, Some, None, Option, nat_le, refl}
+use Rattle.std.specs.Prelude.{◌≡◌, ℕ, ◌≤◌, Bool, true, ◌&&◌, List, [], ◌∷◌, map, length, take, is_some, Some, None, Option, nat_le, refl}
 use Rattle.std.proofs.Common.{ap, ◌∙◌, arith}
-use Rattle.std.proofs.lemmas.List.{length-map}
+use Rattle.std.proofs.lemmas.List.{length-map, length-take-le}
 use Rattle.std.proofs.lemmas.Bool.Decides.{nat_tests}
 use Rattle.std.proofs.lemmas.Bool.{and_from, and_parts, both_ways, le-leb, lt-ltb}
 use Rattle.table.proofs.Maps.{map-sorted}
@@ -50,10 +50,13 @@ few-changed [] = refl
 few-changed (c ∷ cs) = and_from _ _ (few_left c.words) (few-changed cs)
 
 pub ordered-entries : (c : Changes) → ordered (entries c) ≡ true
-ordered-entries c = map-sorted changed key_of key_before c.rows.items ∙ c.sorted
+ordered-entries c = map-sorted changed key_of key_before (take c.used c.rows) ∙ c.sorted
+
+pub length-entries : (c : Changes) → length (entries c) ≡ c.used
+length-entries c = length-map _ _ ∙ length-take-le c.used c.rows (omega (arith, c.long, c.within))
 
 pub few_entries : (c : Changes) → length (entries c) ≤ 64
-few_entries c = omega (arith, length-map c.rows.items changed, c.few)
+few_entries c = omega (arith, length-entries c, c.within)
 
 pub layer_sound : (m : Model) (c : Changes) → Sound m → Sound (layer m (entries c))
 layer_sound m c s =
@@ -62,7 +65,7 @@ layer_sound m c s =
     let k = length-map ts key_of in
     record {
       rises = ordered-overlay ts m.pairs s.rises;
-      full = filled-overlay ts m.pairs (few-changed c.rows.items) s.full;
+      full = filled-overlay ts m.pairs (few-changed (take c.used c.rows)) s.full;
       within = omega (arith, length-overlay ts m.pairs, s.within);
       few = and_from _ _ (map-sorted key_of own key_before ts ∙ ordered-entries c) (le-leb (length (map key_of ts)) 64 (omega arith));
       small = λ e. absurd (both_ways true (ap is_some e) refl);

@@ -2,7 +2,7 @@
 use store::{Key, Words};
 
 // No generic struct with `Pair`: the two fields are all that they would share, and a pair always has words.
-// `Default`, since an `ArrayVec` fills the places that are not in use.
+// `Default`, for the places that are not in use.
 #[derive(Clone, Copy, Default)]
 pub struct Change {
     pub(crate) key: Key,

@@ -1,5 +1,4 @@
 // The key of a change.
-ghost use Rattle.store.specs.Orders.{keys_in_order};
 ghost use Rattle.draft.specs.Changes.{change_key};
 
 use super::change::Change;
@@ -10,8 +9,6 @@ impl Keyed for Change {
     type Key = Key;
 
     ghost keyof = { change_key };
-
-    ghost order = { keys_in_order };
 
     fn key(&self) -> Key {
         self.key

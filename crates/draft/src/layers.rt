@@ -1,5 +1,5 @@
 // A draft as a store: it answers for its touched keys, and the store below for the others.
-ghost use Rattle.std.specs.Prelude.{◌≡◌, [], ◌∷◌};
+ghost use Rattle.std.specs.Prelude.{◌≡◌, [], ◌∷◌, take};
 ghost use Rattle.std.specs.List.{count_by};
 ghost use Rattle.draft.specs.Changes.{changed};
 ghost use Rattle.draft.specs.Layer.{entries, layer};
@@ -40,7 +40,7 @@ impl<S: Store> Store for Draft<S> {
     }
 
     fn free_touches(&self) -> Option<usize> {
-        Some(self.changes.rows.remaining_capacity())
+        Some(64 - self.changes.used)
     }
 
     fn read(&self, key: Key, place: &mut [u64; 16]) -> usize {
@@ -84,7 +84,7 @@ impl<S: Store> Draft<S> {
 
     // How many changes put words where there are none below.
     fn added(&self) -> usize
-        ensures { result ≡ count_by (λ c. adds (S.Store.means self.now.below).pairs (changed c)) self.now.changes.rows.items }
+        ensures { result ≡ count_by (λ c. adds (S.Store.means self.now.below).pairs (changed c)) (take self.now.changes.used self.now.changes.rows) }
     {
         self.changes
             .as_slice()
@@ -95,7 +95,7 @@ impl<S: Store> Draft<S> {
 
     // How many changes take a pair out that is there below. Like `added` but for its test: a test passed in would need clauses on its calls.
     fn taken(&self) -> usize
-        ensures { result ≡ count_by (λ c. takes (S.Store.means self.now.below).pairs (changed c)) self.now.changes.rows.items }
+        ensures { result ≡ count_by (λ c. takes (S.Store.means self.now.below).pairs (changed c)) (take self.now.changes.used self.now.changes.rows) }
     {
         self.changes
             .as_slice()

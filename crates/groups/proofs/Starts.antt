@@ -11,6 +11,14 @@ pub parts-length : {X : Type 0} (xs : List X) (ss : List ℕ) → length (parts 
 parts-length xs [] = refl
 parts-length xs (s ∷ ss) = ap suc (parts-length xs ss)
 
+last_of_push : {X : Type 0} (f : X → X) (y : X) (xs : List X) (x : X) → last_of f y (xs ++ x ∷ []) ≡ y ∷ (xs ++ f x ∷ [])
+last_of_push f y [] x = refl
+last_of_push f y (z ∷ zs) x = ap (λ l. y ∷ l) (last_of_push f z zs x)
+
+pub lastly_push : {X : Type 0} (f : X → X) (xs : List X) (x : X) → lastly f (xs ++ x ∷ []) ≡ xs ++ f x ∷ []
+lastly_push f [] x = refl
+lastly_push f (y ∷ ys) x = last_of_push f y ys x
+
 part_at : {X : Type 0} (xs : List X) (ss : List ℕ) (i : ℕ) → i < length ss → get_or (parts xs ss) i [] ≡ slice_range xs (get_or ss i 0) (get_or ss (suc i) (length xs))
 part_at xs [] i h = absurd (omega arith)
 part_at xs (s ∷ ss) zero h = refl

@@ -1,5 +1,5 @@
 -- Columns and the module that they mean: each is the other's, and stays so with one record more.
-use Rattle.std.proofs.Common.{◌≡◌, ℕ, zero, suc, ◌+◌, ◌≤◌, Bool, true, false, cond, ltb, List, [], ◌∷◌, ◌++◌, map, length, get_or, Some, None, vec_items, vec_len, vec_capacity, sym, refl, ap, ◌∙◌, subst, append-nil, arith}
+use Rattle.std.proofs.Common.{◌≡◌, ℕ, zero, suc, ◌+◌, ◌<◌, ◌≤◌, Bool, true, false, cond, ltb, List, [], ◌∷◌, ◌++◌, map, length, get_or, Some, None, vec_items, vec_len, vec_capacity, sym, refl, ap, ◌∙◌, subst, append-nil, arith}
 use Rattle.std.specs.List.{slice_get}
 use Rattle.std.proofs.lemmas.Bool.{le-ltb, lt-ltb}
 use Rattle.std.proofs.lemmas.Bool.Decides.{nat_tests}
@@ -148,6 +148,42 @@ struct_with h fields = record { abilities = h.abilities; fields = fields; place 
 abbrev pub function_with : FunctionHead → List Typed → List Typed → List Typed → List Line → FunctionDefinition
 function_with h params results locals code =
     record { visibility = h.visibility; params = params; results = results; locals = locals; code = code; place = h.place }
+
+-- columns of any lengths
+pub structs_length : (hs : List StructHead) (fs : List (List Typed)) → length (structs_of hs fs) ≡ length hs
+unfolding structs_of
+structs_length [] fs = refl
+structs_length (h ∷ hs) fs = ap suc (structs_length hs (others fs))
+
+pub functions_length : (hs : List FunctionHead) (ps rs ls : List (List Typed)) (cs : List (List Line)) → length (functions_of hs ps rs ls cs) ≡ length hs
+unfolding functions_of
+functions_length [] ps rs ls cs = refl
+functions_length (h ∷ hs) ps rs ls cs = ap suc (functions_length hs (others ps) (others rs) (others ls) (others cs))
+
+first_is : {X : Type 0} (gs : List (List X)) → first gs ≡ get_or gs 0 []
+first_is [] = refl
+first_is (g ∷ gs) = refl
+
+others-at : {X : Type 0} (gs : List (List X)) (i : ℕ) → get_or (others gs) i [] ≡ get_or gs (suc i) []
+others-at [] i = refl
+others-at (g ∷ gs) i = refl
+
+pub structs_at : (hs : List StructHead) (fs : List (List Typed)) (i : ℕ) (d : StructDefinition) (h : StructHead) → i < length hs
+    → get_or (structs_of hs fs) i d ≡ struct_with (get_or hs i h) (get_or fs i [])
+unfolding structs_of
+structs_at [] fs i d h l = absurd (omega arith)
+structs_at (x ∷ hs) fs zero d h l = ap (struct_with x) (first_is fs)
+structs_at (x ∷ hs) fs (suc i) d h l = structs_at hs (others fs) i d h (omega arith) ∙ ap (struct_with (get_or hs i h)) (others-at fs i)
+
+pub functions_at : (hs : List FunctionHead) (ps rs ls : List (List Typed)) (cs : List (List Line)) (i : ℕ) (d : FunctionDefinition) (h : FunctionHead) → i < length hs
+    → get_or (functions_of hs ps rs ls cs) i d ≡ function_with (get_or hs i h) (get_or ps i []) (get_or rs i []) (get_or ls i []) (get_or cs i [])
+unfolding functions_of
+functions_at [] ps rs ls cs i d h l = absurd (omega arith)
+functions_at (x ∷ hs) ps rs ls cs zero d h l =
+    let p = first_is ps in let r = first_is rs in let s = first_is ls in let c = first_is cs in rw (p, r, s, c)
+functions_at (x ∷ hs) ps rs ls cs (suc i) d h l =
+    let p = others-at ps i in let r = others-at rs i in let s = others-at ls i in let c = others-at cs i in
+    functions_at hs (others ps) (others rs) (others ls) (others cs) i d h (omega arith) ∙ rw (p, r, s, c)
 
 pub struct_at_lem : (r : Inside) {m : Module} (i : ℕ) → Aligned r → module_of r ≡ m → struct_at m i ≡ struct_with (get_or (vec_items r.structs) i (struct_head no_struct)) (get_or r.fields i [])
 struct_at_lem r {m} i a e =

@@ -21,7 +21,7 @@ key_order = record {
   total = λ x y p q. same_parts x y (grind (arith, nat_tests)) (grind (arith, nat_tests)) (grind (arith, nat_tests));
 }
 
--- the law of a record with such a key; it stands on what the code's order is and not on `key_less`
+-- the law of keys (`Ordered`); it stands on what the code's order is and not on `key_less`
 pub keys_in_order : Order (partial_lt ghosts.partial_cmp)
 keys_in_order = record {
   never = λ x. grind (arith, nat_tests);

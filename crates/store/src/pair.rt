@@ -1,4 +1,4 @@
-// A pair: a key with its words.
+// A pair: a key with its words, and the order of keys.
 ghost use Rattle.std.specs.Prelude.{◌≡◌, false, MatchResult};
 ghost use Rattle.store.specs.declared.refusals.Refusal.TheVariants.{WrongLength};
 ghost use Rattle.store.specs.Model.{fits};
@@ -8,7 +8,7 @@ ghost use Rattle.store.specs.Tables.{pair_key, meant};
 use super::keys::Key;
 use super::refusals::Refusal;
 use super::words::Words;
-use table::Keyed;
+use table::{Keyed, Ordered};
 
 #[derive(Clone, Copy)]
 pub struct Pair {
@@ -26,12 +26,14 @@ impl Pair {
     }
 }
 
+impl Ordered for Key {
+    ghost order = { keys_in_order };
+}
+
 impl Keyed for Pair {
     type Key = Key;
 
     ghost keyof = { pair_key };
-
-    ghost order = { keys_in_order };
 
     fn key(&self) -> Key {
         self.key

@@ -101,10 +101,9 @@ impl UncappedStore for TableStore {
 
 impl ListingStore for TableStore {
     fn next(&self, after: Option<Key>) -> Option<Key> {
-        let pairs = self.in_use();
         match after {
-            Some(key) => table::next(pairs, key).map(|pair| pair.key),
-            None => pairs.first().map(|pair| pair.key),
+            Some(key) => table::next(&self.rows, self.used, key).map(|pair| pair.key),
+            None => self.in_use().first().map(|pair| pair.key),
         }
     }
 }

@@ -1,6 +1,4 @@
 // Rows of a record of another kind: what is known of a module, by its number.
-ghost use Rattle.table.specs.Numbers.{numbers_in_order};
-
 use std::test::Fail;
 use table::{Keyed, find, insert, next, remove};
 
@@ -14,8 +12,6 @@ impl Keyed for About {
     type Key = u16;
 
     ghost keyof = { λ a. a.number };
-
-    ghost order = { numbers_in_order };
 
     fn key(&self) -> u16 {
         self.number
@@ -65,15 +61,12 @@ fn what_is_found(rt: HostRuntime) {
         (9, Ok(2), None),
         (65535, Err(3), None),
     ] {
-        assert_eq!(rt; find(&rows[..3], number), place);
-        assert_eq!(rt; next(&rows[..3], number), above);
+        assert_eq!(rt; find(&rows, 3, number), place);
+        assert_eq!(rt; next(&rows, 3, number), above);
     }
-    assert_eq!(rt; find(&rows[..0], 2), Err(0));
-    // a length in use beyond the rows
-    let rows = &rows[..3];
-    let used = rows.len().min(99);
-    assert_eq!(rt; find(&rows[..used], 9), Ok(2));
-    assert_eq!(rt; next(&rows[..used], 9), None);
+    assert_eq!(rt; find(&rows, 0, 2), Err(0));
+    assert_eq!(rt; find(&rows[0..3], 99, 9), Ok(2));
+    assert_eq!(rt; next(&rows[0..3], 99, 9), None);
 }
 
 #[test]

@@ -19,6 +19,6 @@ number_order = record {
   total = λ x y p q. omega (arith, ltb-false x y p, ltb-false y x q);
 }
 
--- the law of a record whose key is a number
+-- the law of numbers as keys (`Ordered`)
 pub numbers_in_order : Order (partial_lt (as_partial_cmp nat_cmp))
 numbers_in_order = subst Order (sym number_less) number_order

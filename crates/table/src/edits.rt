@@ -22,7 +22,7 @@ pub fn insert<R: Keyed>(rows: &mut [R], used: usize, x: R) -> Result<usize, Full
     ensures sorted { sorted R.keyof (partial_lt R.Key.partial_cmp) (take used rows.old) ≡ true → (result ≡ put_answer R.keyof (partial_lt R.Key.partial_cmp) rows.old (take used rows.old) x) × (rows.new ≡ put_after R.keyof (partial_lt R.Key.partial_cmp) rows.old (take used rows.old) x) }
 {
     let used = used.min(rows.len());
-    match find(&rows[..used], x.key()) {
+    match find(rows, used, x.key()) {
         Ok(at) => {
             rows[at] = x;
             Ok(used)
@@ -43,7 +43,7 @@ pub fn remove<R: Keyed>(rows: &mut [R], used: usize, key: R::Key) -> Option<usiz
     ensures sorted { sorted R.keyof (partial_lt R.Key.partial_cmp) (take used rows.old) ≡ true → (result ≡ take_answer R.keyof (partial_lt R.Key.partial_cmp) (take used rows.old) key) × (rows.new ≡ take_after R.keyof (partial_lt R.Key.partial_cmp) rows.old (take used rows.old) key) }
 {
     let used = used.min(rows.len());
-    let at = find(&rows[..used], key).ok()?;
+    let at = find(rows, used, key).ok()?;
     rows.copy_within(at + 1..used, at);
     Some(used - 1)
 }

@@ -6,5 +6,5 @@ mod keys;
 mod search;
 
 pub use edits::{Full, insert, remove};
-pub use keys::Keyed;
+pub use keys::{Keyed, Ordered};
 pub use search::{find, get, next};

@@ -1,5 +1,5 @@
 -- What a type comes to by a table, one declaration at a time.
-use Rattle.std.proofs.Common.{◌≡◌, ℕ, ◌+◌, true, false, List, [], ◌∷◌, ◌++◌, length, None, sym, refl, ap, ◌∙◌, ap₂, ⊎_elim, arith, length-append}
+use Rattle.std.proofs.Common.{◌≡◌, ℕ, ◌+◌, true, false, List, [], ◌∷◌, ◌++◌, length, None, sym, refl, ap, ◌∙◌, ap₂, ⊎_elim, append_assoc, arith, length-append}
 use mathlib.Core.List.{flat_map}
 use Rattle.std.specs.List.{AllByRecursion}
 use Rattle.std.proofs.lemmas.List.Sums.{sum_by-cons}
@@ -38,10 +38,18 @@ pub total-sum : TotalIsTheSum
 total-sum f [] = refl
 total-sum f (t ∷ ts) = ap (λ n. f t + n) (total-sum f ts) ∙ sym (sum_by-cons f t ts)
 
+pub total-append : (f : TypeRef → ℕ) (ts us : List TypeRef) → total f (ts ++ us) ≡ total f ts + total f us
+total-append f [] us = omega arith
+total-append f (t ∷ ts) us = let ih = total-append f ts us in omega arith
+
 pub joined-row : JoinedIsTheRow
 unfolding flat_map
 joined-row f [] = refl
 joined-row f (t ∷ ts) = ap (λ ws. f t ++ ws) (joined-row f ts)
+
+pub joined-append : (f : TypeRef → List TypeRef) (ts us : List TypeRef) → joined f (ts ++ us) ≡ joined f ts ++ joined f us
+joined-append f [] us = refl
+joined-append f (t ∷ ts) us = rw append_assoc (ap (λ ws. f t ++ ws) (joined-append f ts us))
 
 pub total_alike : (ts : List TypeRef) (f g : TypeRef → ℕ) → AllByRecursion (λ t. f t ≡ g t) ts → total f ts ≡ total g ts
 total_alike [] f g e = refl

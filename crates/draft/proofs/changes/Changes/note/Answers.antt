@@ -1,49 +1,71 @@
-use Rattle.std.proofs.Common.{◌≡◌, ℕ, ◌<◌, cond, List, map, length, set, Ok, Err, sym, refl, ap, ◌∙◌, arith}
-use Rattle.std.specs.List.{refill}
-use Rattle.std.proofs.lemmas.List.{length-set}
-use Rattle.std.proofs.lemmas.Bool.{eqb-true, eqb-false}
-use Rattle.arrayvec.specs.ArrayVec.{ArrayVec}
-use Rattle.arrayvec.proofs.ArrayVecLemmas.{items-with_items}
+use Rattle.std.proofs.Common.{◌≡◌, ◌+◌, ◌-◌, ◌<◌, ◌≤◌, cond, map, length, set, take, Ok, Err, sym, ap, ◌∙◌, arith}
+use Rattle.std.proofs.lemmas.List.{length-set, length-take-le}
+use Rattle.std.proofs.Math.Seq.{take-set-lt}
 use Rattle.store.specs.declared.refusals.Refusal.TheVariants.{TooManyTouched}
-use Rattle.draft.specs.declared.change.Change.{Change}
+use Rattle.store.specs.Orders.{key_less}
 use Rattle.draft.specs.Changes.{changed, rising}
 use Rattle.draft.proofs.LayerLaws.{noted_over, noted_new, no_room}
+use Rattle.draft.proofs.Turning.{turned_in, turned-length, turned_part}
 use Rattle.draft.proofs.changes.Changes.note.Goals as goal
-
-written : (v : ArrayVec Change) (ws : List Change) (at : ℕ) (x : Change) → ws ≡ v.items → refill (length v.items) v.items (set ws at x) ≡ set v.items at x
-written v ws at x same = items-with_items v (set ws at x) (length-set ws at x ∙ ap length same) ∙ ap (λ z. set z at x) same
 
 pub invariant_of-self : goal.invariant_of-self
 invariant_of-self c =
     let d = c.args.self.now in
-    let e = written d.rows _ c.in-Ok.at c.args.change c.as_mut_slice.ensures.value in
-    let n = noted_over d c.args.change c.in-Ok.at c.in-Ok.ensures.answer in
-    let fits = d.few in
-    record { few = omega (arith, ap length e, length-set d.rows.items c.in-Ok.at c.args.change); sorted = ap rising e ∙ n.0 }
+    let within = d.within in
+    let long = d.long in
+    let l = length-take-le d.used d.rows (omega arith) in
+    let at : c.in-Ok.at < d.used = omega (arith, c.in-Ok.ensures.bound) in
+    let n = noted_over d c.args.change c.in-Ok.at ((rw key_less at c.in-Ok.ensures.sorted) d.sorted) in
+    record { long = length-set d.rows _ _ ∙ d.long; within = d.within; sorted = ap rising (take-set-lt d.used d.rows c.in-Ok.at c.args.change at) ∙ n.0 }
 
-pub invariant_of-self-in-Err : goal.invariant_of-self-in-Err
-invariant_of-self-in-Err c =
+pub returns-in-Ok-clause-answer : goal.returns-in-Ok-clause-answer
+returns-in-Ok-clause-answer c =
     let d = c.args.self.now in
-    let less : length d.rows.items < 64 = omega (arith, c.if-is_full.ensures.fits, eqb-false (length d.rows.items) 64 (sym c.if-is_full.ensures.value)) in
-    let n = noted_new d c.args.change c.in-Err.at c.in-Err.ensures.answer less in
-    record { few = omega (arith, c.insert.ensures.len); sorted = ap rising c.insert.ensures.items ∙ n.0 }
+    let n = noted_over d c.args.change c.in-Ok.at ((rw key_less at c.in-Ok.ensures.sorted) d.sorted) in
+    ap (λ z. cond z (Ok tt) (Err TooManyTouched)) (sym n.2)
 
-pub returns-in-Ok : goal.returns-in-Ok
-returns-in-Ok c =
+pub returns-in-Ok-clause-after : goal.returns-in-Ok-clause-after
+returns-in-Ok-clause-after c =
     let d = c.args.self.now in
-    let e = written d.rows _ c.in-Ok.at c.args.change c.as_mut_slice.ensures.value in
-    let n = noted_over d c.args.change c.in-Ok.at c.in-Ok.ensures.answer in
-    record { answer = ap (λ z. cond z (Ok tt) (Err TooManyTouched)) (sym n.2); after = ap (map changed) e ∙ n.1 }
+    let within = d.within in
+    let long = d.long in
+    let l = length-take-le d.used d.rows (omega arith) in
+    let at : c.in-Ok.at < d.used = omega (arith, c.in-Ok.ensures.bound) in
+    let n = noted_over d c.args.change c.in-Ok.at ((rw key_less at c.in-Ok.ensures.sorted) d.sorted) in
+    ap (map changed) (take-set-lt d.used d.rows c.in-Ok.at c.args.change at) ∙ n.1
 
-pub returns-then-is_full : goal.returns-then-is_full
-returns-then-is_full c =
+pub returns-in-Err-clause-answer : goal.returns-in-Err-clause-answer
+returns-in-Err-clause-answer c =
     let d = c.args.self.now in
-    let full = eqb-true (length d.rows.items) 64 (sym c.if-is_full.ensures.value) in
-    record { answer = ap (λ z. cond z (Ok tt) (Err TooManyTouched)) (sym (no_room d c.args.change c.in-Err.at c.in-Err.ensures.answer full)); after = refl }
+    let long = d.long in
+    let full : length (take d.used d.rows) ≡ 64 = length-take-le d.used d.rows (omega arith) ∙ c.if-self-eq64.true in
+    ap (λ z. cond z (Ok tt) (Err TooManyTouched)) (sym (no_room d c.args.change c.in-Err.field-0 ((rw key_less at c.in-Err.ensures.sorted) d.sorted) full))
 
-pub returns-else-is_full : goal.returns-else-is_full
-returns-else-is_full c =
+pub invariant_of-self-in-Err-2 : goal.invariant_of-self-in-Err-2
+invariant_of-self-in-Err-2 c =
     let d = c.args.self.now in
-    let less : length d.rows.items < 64 = omega (arith, c.if-is_full.ensures.fits, eqb-false (length d.rows.items) 64 (sym c.if-is_full.ensures.value)) in
-    let n = noted_new d c.args.change c.in-Err.at c.in-Err.ensures.answer less in
-    record { answer = ap (λ z. cond z (Ok tt) (Err TooManyTouched)) (sym n.2); after = ap (map changed) c.insert.ensures.items ∙ n.1 }
+    let within = d.within in
+    let long = d.long in
+    let l = length-take-le d.used d.rows (omega arith) in
+    let at : c.in-Err.field-0 ≤ d.used = omega (arith, c.in-Err.ensures.bound) in
+    let less : d.used < length d.rows = omega (arith, c.if-self-eq64.false) in
+    let s = length-set d.rows d.used c.args.change in
+    let t = turned_in c.in-Err.field-0 d.used (d.used + 1 - c.in-Err.field-0) d.rows c.args.change c.rotate_right.new.self at less (omega arith) c.rotate_right.ensures.after in
+    let n = noted_new d c.args.change c.in-Err.field-0 ((rw key_less at c.in-Err.ensures.sorted) d.sorted) (omega arith) in
+    let new = set d.rows d.used c.args.change in
+    let k = d.used + 1 - c.in-Err.field-0 in
+    let part = turned_part c.in-Err.field-0 k new c.rotate_right.new.self c.rotate_right.ensures.len (omega arith) in
+    let w = turned-length c.in-Err.field-0 k new c.rotate_right.new.self part (omega arith) in
+    record { long = w ∙ s ∙ d.long; within = omega arith; sorted = ap rising t ∙ n.0 }
+
+pub returns-in-Err-2-clause-after : goal.returns-in-Err-2-clause-after
+returns-in-Err-2-clause-after c =
+    let d = c.args.self.now in
+    let within = d.within in
+    let long = d.long in
+    let l = length-take-le d.used d.rows (omega arith) in
+    let at : c.in-Err.field-0 ≤ d.used = omega (arith, c.in-Err.ensures.bound) in
+    let less : d.used < length d.rows = omega (arith, c.if-self-eq64.false) in
+    let t = turned_in c.in-Err.field-0 d.used (d.used + 1 - c.in-Err.field-0) d.rows c.args.change c.rotate_right.new.self at less (omega arith) c.rotate_right.ensures.after in
+    let n = noted_new d c.args.change c.in-Err.field-0 ((rw key_less at c.in-Err.ensures.sorted) d.sorted) (omega arith) in
+    ap (map changed) t ∙ n.1

@@ -1,4 +1,4 @@
-use Rattle.std.proofs.Common.{sym, ap, ◌∙◌, map}
+use Rattle.std.proofs.Common.{sym, ap, ◌∙◌, map, take}
 use Rattle.store.specs.Model.{Model}
 use Rattle.draft.specs.Changes.{changed}
 use Rattle.draft.specs.Layer.{entries}
@@ -16,7 +16,7 @@ returns-clause-below g c room =
     ap means c.forget.ensures.below ∙ c.put_all.ensures.below
     ∙ ap (λ z. putting (map changed z) (means c.remove_all.new.below)) c.as_slice-2.ensures
     ∙ ap (putting ts) (c.remove_all.ensures.below ∙ ap (λ z. removing (map changed z) m) c.as_slice.ensures)
-    ∙ merge_done ts m (ordered-entries d.changes) (g.met.S.Store.sound d.below).rises (few-changed d.changes.rows.items) (sym (c.if-not-fits_below.ensures room))
+    ∙ merge_done ts m (ordered-entries d.changes) (g.met.S.Store.sound d.below).rises (few-changed (take d.changes.used d.changes.rows)) (sym (c.if-not-fits_below.ensures room))
 
 pub returns-clause-map : goal.returns-clause-map
 returns-clause-map g c room =

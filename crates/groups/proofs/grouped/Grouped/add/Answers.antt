@@ -4,7 +4,6 @@ use Rattle.std.proofs.lemmas.Bool.Decides.{nat_tests}
 use Rattle.groups.specs.Groups.{size}
 use Rattle.groups.proofs.Starts.{size-parts, tiled_add, parts_more}
 use Rattle.groups.proofs.grouped.Grouped.add.Goals as goal
-use Rattle.groups.proofs.grouped.Grouped.add.Goals.{After-push_reserved}
 
 pub push_reserved-requires : goal.push_reserved-requires
 push_reserved-requires g c =
@@ -15,15 +14,16 @@ push_reserved-requires g c =
     let o = c.self.inside.items.ok.0 in
     omega arith
 
-some : (g : _) (c : After-push_reserved g) → 0 < length (vec_items c.self.inside.starts)
-some g c = let o = c.self.inside.starts.ok.0 in grind (arith, nat_tests)
-
 pub invariant_of-self : goal.invariant_of-self
 invariant_of-self g c =
-    let t = tiled_add (length (vec_items c.self.inside.items)) (vec_items c.self.inside.starts) (some g c) c.self.invariant.0 in
+    let o = c.self.inside.starts.ok.0 in
+    let some : 0 < length (vec_items c.self.inside.starts) = grind (arith, nat_tests) in
+    let t = tiled_add (length (vec_items c.self.inside.items)) (vec_items c.self.inside.starts) some c.self.invariant.0 in
     rw (c.push_reserved.ensures.items, length_push) (t, omega arith, omega arith)
 
 pub returns-then-not-is_empty : goal.returns-then-not-is_empty
 returns-then-not-is_empty g c =
-    let h = parts_more (vec_items c.self.inside.items) c.args.item (vec_items c.self.inside.starts) c.self.invariant.0.rises (some g c) in
+    let o = c.self.inside.starts.ok.0 in
+    let some : 0 < length (vec_items c.self.inside.starts) = grind (arith, nat_tests) in
+    let h = parts_more (vec_items c.self.inside.items) c.args.item (vec_items c.self.inside.starts) c.self.invariant.0.rises some in
     rw (c.push_reserved.ensures.items, ← c.self.view_is) h
