@@ -27,7 +27,7 @@ impl Changes {
     }
 
     // Puts a change in the place of that of its key, or adds it, unless that would touch a 65th key. A new one is put behind those in use and turned
-    // to its place: the table's `insert` copies row by row, which takes twice as long here, since a copy of words or none is made in two steps.
+    // to its place: the table's `insert` copies row by row, which takes half as long again here and more, since a copy of words or none is made in two steps.
     pub fn note(&mut self, change: Change) -> Result<(), Refusal>
         ensures answer { result ≡ (if may_touch (Some (map key_of (entries self.old))) change.key then Ok tt else Err Refusal.TooManyTouched) }
         ensures after { entries self.new ≡ (if is_ok result then rows.put key_of key_before (changed change) (entries self.old) else entries self.old) }

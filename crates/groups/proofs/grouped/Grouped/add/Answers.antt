@@ -1,7 +1,8 @@
-use Rattle.std.proofs.Common.{◌<◌, vec_items, length, ap, arith}
+use Rattle.std.proofs.Common.{◌<◌, vec_items, length, sym, ap, ◌∙◌, subst, arith}
 use Rattle.std.proofs.lemmas.List.{length_push}
 use Rattle.std.proofs.lemmas.Bool.Decides.{nat_tests}
 use Rattle.groups.specs.Groups.{size}
+use Rattle.groups.specs.Starts.{parts, Tiled}
 use Rattle.groups.proofs.Starts.{size-parts, tiled_add, parts_more}
 use Rattle.groups.proofs.grouped.Grouped.add.Goals as goal
 
@@ -19,11 +20,12 @@ invariant_of-self g c =
     let o = c.self.inside.starts.ok.0 in
     let some : 0 < length (vec_items c.self.inside.starts) = grind (arith, nat_tests) in
     let t = tiled_add (length (vec_items c.self.inside.items)) (vec_items c.self.inside.starts) some c.self.invariant.0 in
-    rw (c.push_reserved.ensures.items, length_push) (t, omega arith, omega arith)
+    let one_more = ap length c.push_reserved.ensures.items ∙ length_push (vec_items c.self.inside.items) c.args.item in
+    (subst (λ n. Tiled n (vec_items c.self.inside.starts)) (sym one_more) t, omega arith, omega arith)
 
 pub returns-then-not-is_empty : goal.returns-then-not-is_empty
 returns-then-not-is_empty g c =
     let o = c.self.inside.starts.ok.0 in
     let some : 0 < length (vec_items c.self.inside.starts) = grind (arith, nat_tests) in
     let h = parts_more (vec_items c.self.inside.items) c.args.item (vec_items c.self.inside.starts) c.self.invariant.0.rises some in
-    rw (c.push_reserved.ensures.items, ← c.self.view_is) h
+    ap (λ xs. parts xs (vec_items c.self.inside.starts)) c.push_reserved.ensures.items ∙ rw (← c.self.view_is) h
