@@ -14,7 +14,7 @@ pub fn write_record(buffer: &mut [u8], used: usize, kind: u8, body: &[u8]) -> Re
     if !record.in_range() {
         return Err(Reason::OutOfRange.at(used));
     }
-    // Two comparisons: `body.len() >= buffer.len().saturating_sub(used)` says the same and costs a caller that inlines this a quarter more.
+    // Two comparisons: `body.len() >= buffer.len().saturating_sub(used)` says the same and can cost a caller that inlines this a quarter more.
     if used >= buffer.len() || body.len() > buffer.len() - used - 1 {
         return Err(Reason::NoRoom.at(used));
     }

@@ -24,11 +24,8 @@ turned_in at used k rs x ys h l e y =
     let before : take at new ≡ take at old = take-set-le at rs used x h ∙ sym (take-take at used rs h) in
     take-put_mid at k new ys (used + 1) (omega (arith, ap length part)) (omega arith) ∙ (λ i. before i ++ part i)
 
-pub turned-length : {X : Type 0} (at k : ℕ) (xs ys : List X) → length ys ≡ k → at + k ≤ length xs → length (put_mid at k xs ys) ≡ length xs
+-- a part that is as long as it was leaves as many rows
+pub turned-length : {X : Type 0} (at k : ℕ) (xs ys : List X) → length ys ≡ length (mid_of at k xs) → at + k ≤ length xs → length (put_mid at k xs ys) ≡ length xs
 turned-length at k xs ys l h =
     omega
-    (arith, length-append (take at xs) (ys ++ post_of at k xs), length-append ys (post_of at k xs), length-take-le at xs (omega arith), length-drop k (drop at xs), length-drop at xs)
-
--- the part that is turned is as long as it was
-pub turned_part : {X : Type 0} (at k : ℕ) (xs ys : List X) → length ys ≡ length (mid_of at k xs) → at + k ≤ length xs → length ys ≡ k
-turned_part at k xs ys e h = e ∙ length-take-le k (drop at xs) (omega (arith, length-drop at xs))
+    (arith, l, length-append (take at xs) (ys ++ post_of at k xs), length-append ys (post_of at k xs), length-take-le at xs (omega arith), length-take-le k (drop at xs) (omega (arith, length-drop at xs)), length-drop k (drop at xs), length-drop at xs)
